@@ -1,0 +1,6 @@
+pub mod Rounding
+pub mod Nearness
+pub mod Integers
+pub mod Powers
+pub mod Sums
+pub mod Fractions

@@ -1,0 +1,4 @@
+pub mod Rounding
+pub mod Nearness
+pub mod Sums
+pub mod Fractions

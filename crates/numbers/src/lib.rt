@@ -1,0 +1,14 @@
+// Arithmetic that carries no word of the trade. The laws are in proofs/.
+ghost use mathlib.Core.Path.{_≡_};
+ghost use Rattle.numbers.specs.Rounding as rounding;
+
+// x / d to the nearest whole number, a half going up; 0 where d is 0.
+pub fn nearest(x: u64, d: u64) -> u64
+    ensures { λ r. ⌜ r ≡ rounding.nearest x d ⌝ }
+{
+    if d == 0 {
+        return 0;
+    }
+    let rest = x % d;
+    if rest < d - rest { x / d } else { x / d + 1 }
+}

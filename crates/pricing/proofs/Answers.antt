@@ -1,0 +1,86 @@
+-- What an answer of a single-contract call says of the code and the price.
+use mathlib.Core.Path.{_≡_, refl, sym, _∙_}
+use mathlib.Core.Bool.{Bool, true, false, cond}
+use Prim.Native.Nat.{ℕ, _+_, _-_, _%_, _≤_, _<_}
+use native.Mathlib.Omega.{arith}
+use borrow.Author.Tests.{le-leb, eq-eqb, leb-true, eqb-true}
+use lib.Dec.{leb, eqb}
+use Rattle.pricing.specs.Prices.{priceLimit}
+use Rattle.pricing.specs.Products.{find}
+use Rattle.pricing.specs.Value.{valueBy}
+use Rattle.pricing.specs.Calls.{Answer, given, refused, check, ofProduct, judged, after, valueOf, tickValueOf}
+use Rattle.pricing.specs.declared.products.Code.{Code}
+use Rattle.pricing.specs.declared.products.Product.{Product}
+use Rattle.pricing.specs.declared.products.Found.{Found}
+use Rattle.pricing.specs.declared.products.Found.the-variants.{At, Missing}
+use Rattle.pricing.specs.declared.contract.Judged.{Judged}
+use Rattle.pricing.specs.declared.contract.Judged.the-variants.{Passed, Failed}
+
+-- two answers that differ
+not-given : {A : Type 0} {k n : ℕ} → refused k ≡ given n → A
+not-given e = absurd (let z : _≡_ {A = ℕ} 0 1 = cc in omega arith)
+
+not-passed : {A : Type 0} {k : ℕ} → Failed k ≡ Passed → A
+not-passed e = absurd (let z : _≡_ {A = ℕ} 0 1 = cc in omega arith)
+
+-- a price of a product: within the limit, and on the tick
+pub record Listed (q : Product) (p : ℕ) : Type 0 where
+  pub within : p ≤ priceLimit
+  pub on-tick : p % q .tick ≡ 0
+
+-- a price that passes 6 and 7 is within the limit and on the tick
+module _ (tick p : ℕ) where
+  both : (b d : Bool) → cond b (cond d Passed (Failed 7)) (Failed 6) ≡ Passed → (b ≡ true) × (d ≡ true)
+  both true true e = (refl, refl)
+  both true false e = not-passed e
+  both false d e = not-passed e
+
+  pub passed : {j : Judged} → j ≡ judged tick p → j ≡ Passed → (p ≤ priceLimit) × (p % tick ≡ 0)
+  unfolding judged
+  passed d e =
+      let (f, g) = both (leb p priceLimit) (eqb (p % tick) 0) (sym d ∙ e) in
+      (leb-true _ _ f, eqb-true _ _ g)
+
+pub passes : {q : Product} {p : ℕ} → Listed q p → judged (q .tick) p ≡ Passed
+unfolding judged
+passes {q} {p} h = rw (le-leb p priceLimit (h .within), eq-eqb (p % q .tick) 0 (h .on-tick))
+
+-- an answer a given at a price of the product that a code names
+pub record Priced (code : Code) (p : ℕ) (a : Product → Answer) (n : ℕ) : Type 0 where
+  pub product : Product
+  pub found : find code ≡ At product
+  pub listed : Listed product p
+  pub answer : a product ≡ given n
+
+module _ (code : Code) (p : ℕ) (a : Product → Answer) {n : ℕ} where
+  of-judged : (q : Product) → find code ≡ At q → (j : Judged) → j ≡ judged (q .tick) p → after j (a q) ≡ given n → Priced code p a n
+  of-judged q f Passed d e =
+      let (w, t) = passed (q .tick) p d refl in
+      record { product = q; found = f; listed = record { within = w; on-tick = t }; answer = e }
+  of-judged q f (Failed k) d e = not-given e
+
+  of-found : (f : Found) → find code ≡ f → ofProduct f (λ q. after (judged (q .tick) p) (a q)) ≡ given n → Priced code p a n
+  of-found (At q) f e = of-judged q f (judged (q .tick) p) refl e
+  of-found Missing f e = not-given e
+
+  pub answered : ofProduct (find code) (λ q. after (judged (q .tick) p) (a q)) ≡ given n → Priced code p a n
+  answered e = of-found (find code) refl e
+
+-- a value that is given is the product's, at a listed price
+pub record Valued (code : Code) (p n : ℕ) : Type 0 where
+  pub product : Product
+  pub found : find code ≡ At product
+  pub listed : Listed product p
+  pub is : valueBy (product .terms) p ≡ n
+
+pub valued : (code : Code) (p : ℕ) {n : ℕ} → valueOf code p ≡ given n → Valued code p n
+unfolding valueOf
+valued code p e =
+    let h = answered code p (λ q. given (valueBy (q .terms) p)) e in
+    let k = h .answer in
+    record { product = h .product; found = h .found; listed = h .listed; is = cc }
+
+-- and the other way round
+pub gives-value : (code : Code) (p : ℕ) {q : Product} → find code ≡ At q → Listed q p → valueOf code p ≡ given (valueBy (q .terms) p)
+unfolding valueOf
+gives-value code p f h = rw (f, passes h)

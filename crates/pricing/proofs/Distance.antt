@@ -1,0 +1,148 @@
+-- How far the ladder's bracket lies from the exact one.
+use mathlib.Core.Path.{_≡_, refl, sym, _∙_, ap}
+use Prim.Native.Nat.{ℕ, zero, suc, _+_, _*_, _-_, _^_, _≤_, _<_}
+use native.Mathlib.Nat.{mul-le-mul-left, pow-suc, pow-zero, pow-le-pow-left, one-le-pow, le-of-mul-le-mul-left}
+use native.Mathlib.Omega.{arith}
+use lib.Dec.{lit≤}
+use Rattle.numbers.specs.Rounding.{nearest}
+use Rattle.numbers.specs.Nearness.{Near}
+use Rattle.numbers.proofs.Rounding.{nearest-near, nearest-mono}
+use Rattle.numbers.proofs.Nearness.{near-scale, near-cancel, near-add, near-as, near-then}
+use Rattle.numbers.proofs.Powers.{pow-one, one-pow, pow-both, pow-product, growth-below}
+use Rattle.pricing.specs.Ladder.{base, firstFactor, factor, annuity, bracket, wholeAnnuity, wholeBracket}
+use Rattle.pricing.proofs.Factors.{factor-first, factor-next, annuity-none, annuity-next, whole-none, whole-next, first-below}
+
+-- One step of the ladder, as numbers: w rounds v * v1 / d. The growth of v from one power to the next is at most r / s.
+-- G is q^k * s^(k - 1), H is base^k * s^(k - 1), E is q^k * r^(k - 1) and m is 2 * k - 1.
+errors : (d q r s v1 G H E m : ℕ) → v1 * s ≤ d * r → H * s ≤ E * r → G * s ≤ E * r
+    → G * q * s * d + (v1 * q * s * (m * E) + d * H * s * q) ≤ d * ((m + 2) * (E * r * q))
+errors d q r s v1 G H E m hv hH hG =
+    omega (arith, mul-le-mul-left (m * E * q) hv, mul-le-mul-left (d * q) hH, mul-le-mul-left (d * q) hG)
+
+step : (d a q r s v v1 w G H E m : ℕ) → 0 < d
+    → Near (2 * (v1 * q)) (2 * (a * d)) q → v1 * s ≤ d * r → H * s ≤ E * r → G * s ≤ E * r
+    → Near (2 * (v * G)) (2 * (d * H)) (m * E)
+    → Near (2 * (w * d)) (2 * (v * v1)) d
+    → Near (2 * (w * (G * q * s))) (2 * (d * (H * a * s))) ((m + 2) * (E * r * q))
+step d a q r s v v1 w G H E m pos h1 hv hH hG ih hw =
+    near-cancel d pos (near-as
+      (near-then (near-scale (G * q * s) hw) (p₁ v v1 q s G) (near-then (near-scale (v1 * q * s) ih) (p₂ d v1 q s H) (near-scale (d * H * s) h1)))
+      (p₀ d w q s G) (p₃ d a s H) (errors d q r s v1 G H E m hv hH hG))
+  where
+    p₀ : (d w q s G : ℕ) → d * (2 * (w * (G * q * s))) ≡ G * q * s * (2 * (w * d))
+    p₀ d w q s G = omega arith
+    p₁ : (v v1 q s G : ℕ) → G * q * s * (2 * (v * v1)) ≡ v1 * q * s * (2 * (v * G))
+    p₁ v v1 q s G = omega arith
+    p₂ : (d v1 q s H : ℕ) → v1 * q * s * (2 * (d * H)) ≡ d * H * s * (2 * (v1 * q))
+    p₂ d v1 q s H = omega arith
+    p₃ : (d a s H : ℕ) → d * H * s * (2 * (a * d)) ≡ d * (2 * (d * (H * a * s)))
+    p₃ d a s H = omega arith
+
+-- One more term of the sum: the sum's distance grows from n² to (n + 1)². G is q^n * s^(n - 1), S is s^(n - 1), E is q^n * r^(n - 1).
+sum-step : (d q r s t v A P G S E n : ℕ) → s ≤ r
+    → Near (2 * (t * G)) (2 * (d * (A * S))) (n * n * E)
+    → Near (2 * (v * (G * q * s))) (2 * (d * (P * (S * s)))) ((2 * n + 1) * (E * q * r))
+    → Near (2 * ((t + v) * (G * q * s))) (2 * (d * ((A * q + P) * (S * s)))) (suc n * suc n * (E * q * r))
+sum-step d q r s t v A P G S E n sr ih h =
+    near-as (near-add (near-scale (q * s) ih) h) (p₀ q s t v G) (p₁ d q s A P S) (omega (arith, mul-le-mul-left (q * (n * n * E)) sr))
+  where
+    p₀ : (q s t v G : ℕ) → 2 * ((t + v) * (G * q * s)) ≡ q * s * (2 * (t * G)) + 2 * (v * (G * q * s))
+    p₀ q s t v G = omega arith
+    p₁ : (d q s A P S : ℕ) → q * s * (2 * (d * (A * S))) + 2 * (d * (P * (S * s))) ≡ 2 * (d * ((A * q + P) * (S * s)))
+    p₁ d q s A P S = omega arith
+
+-- The ladder where v grows by at most r / s from one power to the next, r / s being at least 1.
+module _ (D q r s : ℕ) (pos : 0 < D) (posq : 0 < q) (sr : s ≤ r) (hv : firstFactor D q * s ≤ D * r) (ha : base * s ≤ q * r) where
+  powers-low : (k : ℕ) → base ^ suc k * s ^ k * s ≤ q ^ suc k * r ^ k * r
+  powers-low k = omega (arith, rw (pow-suc s k, pow-suc r k) at (pow-product base s q r (suc k) ha))
+
+  powers-high : (k : ℕ) → q ^ suc k * s ^ k * s ≤ q ^ suc k * r ^ k * r
+  powers-high k = omega (arith, mul-le-mul-left (q ^ suc k) (rw (pow-suc s k, pow-suc r k) at (pow-le-pow-left sr (suc k))))
+
+  factor-near : (k : ℕ) → Near (2 * (factor D q (suc k) * (q ^ suc k * s ^ k))) (2 * (D * (base ^ suc k * s ^ k))) ((2 * k + 1) * (q ^ suc k * r ^ k))
+  factor-near zero =
+      rw (factor-first D q, pow-one q, pow-one base, pow-zero s, pow-zero r) (near-as (nearest-near (base * D) q posq) (omega arith) (omega arith) (omega arith))
+  factor-near (suc k) =
+      rw (factor-next D q k, pow-both q s (suc k) k, pow-both base s (suc k) k, pow-both q r (suc k) k)
+      (near-as
+        (step D base q r s (factor D q (suc k)) (firstFactor D q) (nearest (factor D q (suc k) * firstFactor D q) D) _ _ _ (2 * k + 1) pos
+          (nearest-near (base * D) q posq) hv (powers-low k) (powers-high k) (factor-near k) (nearest-near (factor D q (suc k) * firstFactor D q) D pos))
+        refl refl (omega arith))
+
+  -- the sum of n + 1 rungs
+  annuity-near : (k : ℕ) → Near (2 * (annuity D q (suc k) * (q ^ suc k * s ^ k))) (2 * (D * (wholeAnnuity q (suc k) * s ^ k))) (suc k * suc k * (q ^ suc k * r ^ k))
+  annuity-near zero =
+      rw (annuity-next D q 0, whole-next q 0, annuity-none D q, whole-none q)
+      (near-as (factor-near 0) (omega arith) (omega arith) (omega arith))
+  annuity-near (suc k) =
+      rw (annuity-next D q (suc k), whole-next q (suc k), pow-both q s (suc k) k, pow-suc s k, pow-both q r (suc k) k)
+      (sum-step D q r s (annuity D q (suc k)) (factor D q (suc (suc k))) (wholeAnnuity q (suc k)) (base ^ suc (suc k)) _ (s ^ k) _ (suc k) sr
+        (annuity-near k) (rw (pow-both q s (suc k) k, pow-suc s k, pow-both q r (suc k) k) at (factor-near (suc k))))
+
+  bracket-near : (c k : ℕ) → Near (2 * (bracket D c (suc k) q * (q ^ suc k * s ^ k))) (2 * (D * (wholeBracket c (suc k) q * s ^ k)))
+      ((c * (suc k * suc k) + 200 * suc k - 100) * (q ^ suc k * r ^ k))
+  unfolding bracket wholeBracket
+  bracket-near c k =
+      near-as (near-add (near-scale c (annuity-near k)) (near-scale 100 (factor-near k)))
+      (e₀ c (annuity D q (suc k)) (factor D q (suc k)) (q ^ suc k * s ^ k)) (e₁ c D (wholeAnnuity q (suc k)) (base ^ suc k) (s ^ k))
+      (e₂ c k (q ^ suc k * r ^ k))
+    where
+      e₀ : (c t v G : ℕ) → 2 * ((c * t + 100 * v) * G) ≡ c * (2 * (t * G)) + 100 * (2 * (v * G))
+      e₀ c t v G = omega arith
+      e₁ : (c d A P S : ℕ) → c * (2 * (d * (A * S))) + 100 * (2 * (d * (P * S))) ≡ 2 * (d * ((c * A + 100 * P) * S))
+      e₁ c d A P S = omega arith
+      e₂ : (c k E : ℕ) → c * (suc k * suc k * E) + 100 * ((2 * k + 1) * E) ≤ (c * (suc k * suc k) + 200 * suc k - 100) * E
+      e₂ c k E = rw (e₃ (c * (suc k * suc k)) k) (omega arith)
+        where
+          e₃ : (x k : ℕ) → x + 200 * suc k - 100 ≡ x + 100 * (2 * k + 1)
+          e₃ x k = omega arith
+
+-- THE LADDER'S DISTANCE. q is 2,000,000 + Y. Over any scale D, for any n from 1, any coupon c and any yield Y from 0, the ladder's bracket
+-- lies within (c n² + 200 n − 100) / 2 units of the exact one, which is D * wholeBracket / q^n units.
+pub ladder-distance : (D c n q : ℕ) → 0 < D → 1 ≤ n → base ≤ q
+    → Near (2 * (bracket D c n q * q ^ n)) (2 * (D * wholeBracket c n q)) ((c * (n * n) + 200 * n - 100) * q ^ n)
+ladder-distance D c zero q hD h hq = absurd (omega arith)
+ladder-distance D c (suc k) q hD h hq =
+    near-as (bracket-near D q 1 1 hD (omega arith) (omega arith) (omega (arith, first-below D q hq)) (omega arith) c k)
+    (rw one-pow (omega arith)) (rw one-pow (omega arith)) (rw one-pow (omega arith))
+
+-- above 100 a power grows by less than 5,051 / 5,000
+first-above : (D q : ℕ) → 10000 ≤ D → 1980000 ≤ q → firstFactor D q * 5000 ≤ D * 5051
+first-above D q hD hq = omega (arith, nearest-mono (base * D) (base * D) 1980000 q (lit≤ tt) (omega arith) hq, nearest-near (base * D) 1980000 (lit≤ tt))
+
+-- ABOVE 100: q from 1,980,000 and n to 40. One and a half times the former distance.
+pub ladder-distance-above : (D c n q : ℕ) → 10000 ≤ D → 1 ≤ n → n ≤ 40 → 1980000 ≤ q
+    → Near (4 * (bracket D c n q * q ^ n)) (4 * (D * wholeBracket c n q)) (3 * ((c * (n * n) + 200 * n - 100) * q ^ n))
+ladder-distance-above D c zero q hD h h40 hq = absurd (omega arith)
+ladder-distance-above D c (suc k) q hD h h40 hq =
+    near-cancel (5000 ^ k) (one-le-pow k 5000 (omega arith))
+    (widen (bracket D c (suc k) q) (wholeBracket c (suc k) q) D (q ^ suc k) (5051 ^ k) (5000 ^ k) (c * (suc k * suc k) + 200 * suc k - 100)
+      (growth-below 5051 5000 k (39 - k) (omega arith) (omega arith) (rw (upto k (omega arith)) (lit≤ tt)))
+      (bracket-near D q 5051 5000 (omega arith) (omega arith) (omega arith) (first-above D q hD hq) (omega arith) c k))
+  where
+    upto : (k : ℕ) → k ≤ 39 → k + (39 - k) ≡ 39
+    upto k h = omega arith
+    widen : (b x D Q R S e : ℕ) → 2 * R ≤ 3 * S → Near (2 * (b * (Q * S))) (2 * (D * (x * S))) (e * (Q * R))
+        → Near (S * (4 * (b * Q))) (S * (4 * (D * x))) (S * (3 * (e * Q)))
+    widen b x D Q R S e g h = near-as (near-scale 2 h) (omega arith) (omega arith) (omega (arith, mul-le-mul-left (e * Q) g))
+
+-- ABOVE 100 no rung outgrows twice the scale
+pub discount-above : (D k q : ℕ) → 10000 ≤ D → k ≤ 39 → 1980000 ≤ q → factor D q (suc k) ≤ 2 * D
+discount-above D k q hD hk hq =
+    small D k (factor D q (suc k)) (5051 ^ k) (5000 ^ k) hD hk (one-le-pow k 5000 (lit≤ tt))
+    (growth-below 5051 5000 k (39 - k) (lit≤ tt) (lit≤ tt) (rw (upto k hk) (lit≤ tt)))
+    (le-of-mul-le-mul-left {m = 2 * factor D q (suc k) * (5000 ^ k * 5000)} {n = 2 * D * (5051 ^ k * 5051) + (2 * k + 1) * (5051 ^ k * 5000)} {k = q ^ suc k}
+      (sized D k (factor D q (suc k)) (base ^ suc k) (q ^ suc k) (5051 ^ k) (5000 ^ k)
+        (factor-near D q 5051 5000 (omega arith) (omega arith) (lit≤ tt) (first-above D q hD hq) (omega arith) k .up)
+        (powers-low D q 5051 5000 (omega arith) (omega arith) (lit≤ tt) (first-above D q hD hq) (omega arith) k))
+      (one-le-pow (suc k) q (omega arith)))
+  where
+    upto : (k : ℕ) → k ≤ 39 → k + (39 - k) ≡ 39
+    upto k h = omega arith
+    sized : (D k v P Q R S : ℕ) → 2 * (v * (Q * S)) ≤ 2 * (D * (P * S)) + (2 * k + 1) * (Q * R) → P * S * 5000 ≤ Q * R * 5051
+        → Q * (2 * v * (S * 5000)) ≤ Q * (2 * D * (R * 5051) + (2 * k + 1) * (R * 5000))
+    sized D k v P Q R S h l = omega (arith, mul-le-mul-left 5000 h, mul-le-mul-left (2 * D) l)
+    small : (D k v R S : ℕ) → 10000 ≤ D → k ≤ 39 → 0 < S → 2 * R ≤ 3 * S → 2 * v * (S * 5000) ≤ 2 * D * (R * 5051) + (2 * k + 1) * (R * 5000) → v ≤ 2 * D
+    small D k v R S hD hk hS g h =
+        le-of-mul-le-mul-left {m = v} {n = 2 * D} {k = 20000 * S}
+        (omega (arith, h, mul-le-mul-left (2 * D * 5051 + (2 * k + 1) * 5000) g, mul-le-mul-left S hD, mul-le-mul-left S hk)) (omega arith)

@@ -1,0 +1,82 @@
+-- Laws of the product table: what a search finds, and what holds of every line.
+use mathlib.Core.Path.{_≡_, refl, sym, subst, ap₂, _∙_}
+use mathlib.Core.List.{List, [], _∷_}
+use mathlib.Core.Bool.{Bool, true, false, cond, _&&_}
+use Prim.Native.Nat.{ℕ, suc, _+_, _<_, _≤_}
+use native.Mathlib.Omega.{arith}
+use native.Mathlib.Numerals.{add-one}
+use borrow.Author.Tests.{eqb-true}
+use lib.Dec.{eqb}
+use lib.ListN.{length, getD, drop}
+use lib.Seq.{drop-cons}
+use Rattle.pricing.specs.Products.{products, noProduct, sameCode, findIn, find, hasMonth}
+use Rattle.pricing.specs.Value.{Modest}
+use Rattle.pricing.specs.declared.products.Code.{Code}
+use Rattle.pricing.specs.declared.products.Product.{Product}
+use Rattle.pricing.specs.declared.products.Found.{Found}
+use Rattle.pricing.specs.declared.products.Found.the-variants.{At}
+
+-- a search from line i on finds that line where it has the code, and else what a search from the next line on finds
+module _ (qs : List Product) (i : ℕ) (a : Code) (h : i < length qs) where
+  pub find-here : sameCode a (getD qs i noProduct .code) ≡ true → findIn (drop i qs) a ≡ At (getD qs i noProduct)
+  unfolding findIn
+  find-here e = rw (drop-cons qs i noProduct, e)
+
+  pub find-next : sameCode a (getD qs i noProduct .code) ≡ false → findIn (drop i qs) a ≡ findIn (drop (i + 1) qs) a
+  unfolding findIn
+  find-next e = rw (add-one, drop-cons qs i noProduct, e)
+
+-- what holds of every line of a table holds of the line that a code names
+abbrev pub Every : (Product → Type 0) → List Product → Type 0
+Every P [] = Unit {0}
+Every P (q ∷ qs) = P q × Every P qs
+
+module _ (P : Product → Type 0) {q : Product} where
+  first : (b : Bool) {r : Product} {f : Found} → P r → (f ≡ At q → P q) → cond b (At r) f ≡ At q → P q
+  first true {r} h g e = let d : r ≡ q = cc in subst P d h
+  first false h g e = g e
+
+  pub of-found : (qs : List Product) (a : Code) → Every P qs → findIn qs a ≡ At q → P q
+  unfolding findIn
+  of-found [] a h e = absurd (let z : _≡_ {A = ℕ} 0 1 = cc in omega arith)
+  of-found (r ∷ qs) a h e = first (sameCode a (r .code)) (h .0) (of-found qs a (h .1)) e
+
+-- what is found bears the code
+both-true : (b d : Bool) → (b && d) ≡ true → (b ≡ true) × (d ≡ true)
+both-true true true e = (refl, refl)
+both-true true false e = absurd (let z : _≡_ {A = ℕ} 0 1 = cc in omega arith)
+both-true false d e = absurd (let z : _≡_ {A = ℕ} 0 1 = cc in omega arith)
+
+same-code : (a b : Code) → sameCode a b ≡ true → a ≡ b
+unfolding sameCode
+same-code a b e =
+    let (f, g) = both-true (eqb (a .0) (b .0)) (eqb (a .1) (b .1)) e in
+    ap₂ (λ (x y : ℕ). record { 0 = x; 1 = y }) (eqb-true _ _ f) (eqb-true _ _ g)
+
+module _ {q : Product} where
+  found-by : (b : Bool) (a : Code) (r : Product) {f : Found} → (b ≡ true → a ≡ r .code) → (f ≡ At q → q .code ≡ a) → cond b (At r) f ≡ At q → q .code ≡ a
+  found-by true a r h g e = let d : r ≡ q = cc in rw (← d) (sym (h refl))
+  found-by false a r h g e = g e
+
+  found-code-in : (qs : List Product) (a : Code) → findIn qs a ≡ At q → q .code ≡ a
+  unfolding findIn
+  found-code-in [] a e = absurd (let z : _≡_ {A = ℕ} 0 1 = cc in omega arith)
+  found-code-in (r ∷ qs) a e = found-by (sameCode a (r .code)) a r (same-code a (r .code)) (found-code-in qs a) e
+
+pub found-code : (a : Code) {q : Product} → find a ≡ At q → q .code ≡ a
+unfolding find
+found-code a e = found-code-in products a e
+
+-- the lines of the product table have modest terms and a tick
+pub record Sound (q : Product) : Type 0 where
+  pub terms : Modest (q .terms)
+  pub tick : 0 < q .tick
+  pub low : q .tick ≤ 100
+
+all-sound : Every Sound products
+unfolding products
+all-sound = search arith
+
+pub sound : {f : Found} {q : Product} (a : Code) → f ≡ find a → f ≡ At q → Sound q
+unfolding find
+sound a d e = of-found Sound products a all-sound (sym d ∙ e)

@@ -1,0 +1,68 @@
+-- The answers of the single-contract calls, with the numbers of the checks that turn a call away.
+use Prim.Native.Nat.{ℕ, _+_, _-_, _%_}
+use mathlib.Core.Bool.{Bool, cond}
+use lib.Dec.{leb, eqb}
+use Rattle.pricing.specs.Prices.{priceLimit}
+use Rattle.pricing.specs.Products.{find}
+use Rattle.pricing.specs.Ladder.{bracket}
+use Rattle.pricing.specs.Value.{scale, bondDivisor, valueBy}
+use Rattle.pricing.specs.declared.products.Code.{Code}
+use Rattle.pricing.specs.declared.products.Product.{Product}
+use Rattle.pricing.specs.declared.products.Terms.{Terms}
+use Rattle.pricing.specs.declared.products.Terms.the-variants.{Bill, Bond, CashRate}
+use Rattle.pricing.specs.declared.products.Found.{Found}
+use Rattle.pricing.specs.declared.products.Found.the-variants.{At, Missing}
+use Rattle.pricing.specs.declared.contract.Judged.{Judged}
+use Rattle.pricing.specs.declared.contract.Judged.the-variants.{Passed, Failed}
+use Rattle.pricing.specs.declared.contract.Priced.{Priced}
+use Rattle.pricing.specs.declared.contract.Priced.the-variants as priced
+
+-- the answer of a call: a number, or the number of the check that turns it away
+pub data Answer : Type 0 where
+  given : ℕ → Answer
+  refused : ℕ → Answer
+
+-- what an answer of the code says
+abbrev pub said : Priced → Answer
+said (priced.Given n) = given n
+said (priced.Refused k) = refused k
+
+-- the answer a, unless check k fails
+abbrev pub check : ℕ → Bool → Answer → Answer
+check k passed a = cond passed a (refused k)
+
+-- check 4, then the answer of the product
+abbrev pub ofProduct : Found → (Product → Answer) → Answer
+ofProduct (At q) f = f q
+ofProduct Missing f = refused 4
+
+-- checks 6 and 7 of a price
+unfoldable pub judged : ℕ → ℕ → Judged
+judged tick p = cond (leb p priceLimit) (cond (eqb (p % tick) 0) Passed (Failed 7)) (Failed 6)
+
+-- the answer a to a price that passes
+abbrev pub after : Judged → Answer → Answer
+after Passed a = a
+after (Failed k) a = refused k
+
+-- the value of one contract in cents
+unfoldable pub valueOf : Code → ℕ → Answer
+valueOf code p = ofProduct (find code) (λ q. after (judged (q .tick) p) (given (valueBy (q .terms) p)))
+
+-- the value at p + tick minus the value at p, which is never below 0 (proofs/Promises.antt, tick-value-adds)
+unfoldable pub tickValueOf : Code → ℕ → Answer
+tickValueOf code p =
+    ofProduct (find code)
+    (λ q. after (judged (q .tick) p)
+    (check 15 (leb (p + q .tick) priceLimit) (given (valueBy (q .terms) (p + q .tick) - valueBy (q .terms) p))))
+
+-- the answer of a bond's half coupon and half years; other terms are refused with 4
+abbrev pub ofBond : Terms → (ℕ → ℕ → Answer) → Answer
+ofBond (Bill face days) f = refused 4
+ofBond (Bond face c n) f = f c n
+ofBond (CashRate cents) f = refused 4
+
+-- a bond's bracket, in units of the ladder
+unfoldable pub bracketOf : Code → ℕ → Answer
+bracketOf code p =
+    ofProduct (find code) (λ q. ofBond (q .terms) (λ c n. after (judged (q .tick) p) (given (bracket scale c n (bondDivisor p)))))

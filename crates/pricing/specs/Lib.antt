@@ -1,0 +1,7 @@
+pub mod Prices
+pub mod Products
+pub mod Ladder
+pub mod Value
+pub mod Calls
+pub mod Accuracy
+pub mod Figures

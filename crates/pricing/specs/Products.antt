@@ -1,0 +1,72 @@
+-- The product table, and the product that a code names.
+use Prim.Native.Nat.{ℕ, _+_, _/_, _%_, _^_}
+use mathlib.Core.List.{List, [], _∷_}
+use mathlib.Core.Bool.{Bool, cond, _&&_}
+use lib.Dec.{eqb, ltb}
+use Rattle.pricing.specs.declared.products.Code.{Code}
+use Rattle.pricing.specs.declared.products.Currency.the-variants.{Aud, Nzd}
+use Rattle.pricing.specs.declared.products.Product.{Product}
+use Rattle.pricing.specs.declared.products.Terms.the-variants.{Bill, Bond, CashRate}
+use Rattle.pricing.specs.declared.products.Found.{Found}
+use Rattle.pricing.specs.declared.products.Found.the-variants.{At, Missing}
+
+-- a list of months as one number, which has the bit m for each month m
+abbrev pub monthBits : List ℕ → ℕ
+monthBits [] = 0
+monthBits (m ∷ ms) = 2 ^ m + monthBits ms
+
+abbrev pub quarterly : ℕ
+quarterly = monthBits (3 ∷ 6 ∷ 9 ∷ 12 ∷ [])
+
+abbrev pub monthly : ℕ
+monthly = monthBits (1 ∷ 2 ∷ 3 ∷ 4 ∷ 5 ∷ 6 ∷ 7 ∷ 8 ∷ 9 ∷ 10 ∷ 11 ∷ 12 ∷ [])
+
+-- the codes: two ASCII letters
+abbrev pub IR : Code
+IR = (73, 82)
+
+abbrev pub BB : Code
+BB = (66, 66)
+
+abbrev pub IB : Code
+IB = (73, 66)
+
+abbrev pub YT : Code
+YT = (89, 84)
+
+abbrev pub XT : Code
+XT = (88, 84)
+
+abbrev pub XX : Code
+XX = (88, 88)
+
+-- the six lines: a bill has its face and its days; a bond its face, half coupon c and half years n; a cash rate contract its cents for each 0.01
+unfoldable pub products : List Product
+products =
+    record { code = IR; terms = Bill 1_000_000 90; currency = Aud; tick = 100; months = quarterly }
+    ∷ record { code = BB; terms = Bill 1_000_000 90; currency = Nzd; tick = 100; months = quarterly }
+    ∷ record { code = IB; terms = CashRate 2_466; currency = Aud; tick = 50; months = monthly }
+    ∷ record { code = YT; terms = Bond 100_000 3 6; currency = Aud; tick = 50; months = quarterly }
+    ∷ record { code = XT; terms = Bond 100_000 3 20; currency = Aud; tick = 50; months = quarterly }
+    ∷ record { code = XX; terms = Bond 50_000 2 40; currency = Aud; tick = 50; months = quarterly }
+    ∷ []
+
+-- what stands past the table's end
+unfoldable pub noProduct : Product
+noProduct = record { code = (0, 0); terms = Bill 0 0; currency = Aud; tick = 0; months = 0 }
+
+-- two codes have the same letters
+unfoldable pub sameCode : Code → Code → Bool
+sameCode a b = eqb (a .0) (b .0) && eqb (a .1) (b .1)
+
+-- the first line of a table that a code names
+unfoldable pub findIn : List Product → Code → Found
+findIn [] a = Missing
+findIn (q ∷ qs) a = cond (sameCode a (q .code)) (At q) (findIn qs a)
+
+unfoldable pub find : Code → Found
+find a = findIn products a
+
+-- a month is one of the product's
+unfoldable pub hasMonth : Product → ℕ → Bool
+hasMonth q m = ltb m 16 && eqb (q .months / 2 ^ m % 2) 1

@@ -1,0 +1,47 @@
+// The bond ladder: discount factors by rounded powers, in units of 10^-8.
+ghost use mathlib.Core.Path.{_≡_};
+ghost use Prim.Native.Nat.{_≤_, _<_};
+ghost use Rattle.numbers.specs.Rounding.{nearest};
+ghost use Rattle.pricing.specs.Prices.{priceLimit};
+ghost use Rattle.pricing.specs.Ladder.{factor, bracket};
+ghost use Rattle.pricing.specs.Value.{scale, bondDivisor};
+use crate::products::PAR;
+
+// One, in the units of the ladder.
+const SCALE: u64 = 100_000_000;
+
+// A yield of 200 per cent, which is 100 per cent for a half year.
+const BASE: u64 = 2_000_000;
+
+// x / SCALE, rounded.
+pub(crate) fn descaled(x: u64) -> u64
+    requires { ⌜ x ≤ 1000000000000000000 ⌝ }
+    ensures { λ r. ⌜ r ≡ nearest x scale ⌝ }
+{
+    (x + SCALE / 2) / SCALE
+}
+
+// 2,000,000 + Y.
+fn divisor(p: u64) -> u64
+    requires { ⌜ p ≤ priceLimit ⌝ }
+    ensures { λ r. ⌜ r ≡ bondDivisor p ⌝ }
+{
+    BASE + (PAR - p)
+}
+
+// The bracket of a bond: c times (V1 + .. + Vn) plus 100 times Vn.
+pub(crate) fn bracket_at(coupon: u64, halves: u64, p: u64) -> u64
+    requires { ⌜ (coupon ≤ 3) × (1 ≤ halves) × (halves ≤ 40) × (p ≤ priceLimit) ⌝ }
+    ensures { λ r. ⌜ r ≡ bracket scale coupon halves (bondDivisor p) ⌝ }
+{
+    let first = numbers::nearest(BASE * SCALE, divisor(p));
+    let mut v = first;
+    let mut sum = first;
+    let mut k = 1;
+    while k < halves {
+        v = descaled(v * first);
+        sum += v;
+        k += 1;
+    }
+    coupon * sum + 100 * v
+}

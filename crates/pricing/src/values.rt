@@ -1,0 +1,52 @@
+// The value of one contract in cents, by its terms, at a price within the limit.
+ghost use mathlib.Core.Path.{_≡_};
+ghost use Prim.Native.Nat.{_≤_};
+ghost use Rattle.pricing.specs.Prices.{priceLimit};
+ghost use Rattle.pricing.specs.Value.{Modest, valueBy};
+use crate::ladder::bracket_at;
+use crate::ladder::descaled;
+use crate::products::PAR;
+use crate::products::Terms;
+
+// A yield of 100 per cent.
+const HUNDRED_PERCENT: u64 = 1_000_000;
+
+// Face times 365 over (365 + yield times days / 100).
+fn bill_at(face: u64, days: u64, p: u64) -> u64
+    requires { ⌜ Modest (Terms.Bill face days) × (p ≤ priceLimit) ⌝ }
+    ensures { λ r. ⌜ r ≡ valueBy (Terms.Bill face days) p ⌝ }
+{
+    numbers::nearest(
+        face * 100 * 365 * HUNDRED_PERCENT,
+        365 * HUNDRED_PERCENT + days * (PAR - p),
+    )
+}
+
+fn bond_at(face: u64, coupon: u64, halves: u64, p: u64) -> u64
+    requires { ⌜ Modest (Terms.Bond face coupon halves) × (p ≤ priceLimit) ⌝ }
+    ensures { λ r. ⌜ r ≡ valueBy (Terms.Bond face coupon halves) p ⌝ }
+{
+    descaled(bracket_at(coupon, halves, p) * face)
+}
+
+fn cash_at(cents: u64, p: u64) -> u64
+    requires { ⌜ Modest (Terms.CashRate cents) × (p ≤ priceLimit) ⌝ }
+    ensures { λ r. ⌜ r ≡ valueBy (Terms.CashRate cents) p ⌝ }
+{
+    numbers::nearest(cents * p, 100)
+}
+
+pub(crate) fn value_at(t: Terms, p: u64) -> u64
+    requires { ⌜ Modest t × (p ≤ priceLimit) ⌝ }
+    ensures { λ r. ⌜ r ≡ valueBy t p ⌝ }
+{
+    match t {
+        Terms::Bill { face, days } => bill_at(face, days, p),
+        Terms::Bond {
+            face,
+            coupon,
+            halves,
+        } => bond_at(face, coupon, halves, p),
+        Terms::CashRate { cents } => cash_at(cents, p),
+    }
+}
