@@ -12,9 +12,9 @@ near-scale k {x} {y} {e} h = omega (arith, mul-le-mul-left k (h .up), mul-le-mul
 -- a common factor goes
 pub near-cancel : (k : ℕ) {x y e : ℕ} → 0 < k → Near (k * x) (k * y) (k * e) → Near x y e
 near-cancel k {x} {y} {e} pos h = record {
-    up = le-of-mul-le-mul-left {m = x} {n = y + e} {k = k} (omega (arith, h .up)) pos;
-    down = le-of-mul-le-mul-left {m = y} {n = x + e} {k = k} (omega (arith, h .down)) pos
-  }
+  up = le-of-mul-le-mul-left {m = x} {n = y + e} {k = k} (omega (arith, h .up)) pos;
+  down = le-of-mul-le-mul-left {m = y} {n = x + e} {k = k} (omega (arith, h .down)) pos;
+}
 
 pub near-add : {x y e x' y' e' : ℕ} → Near x y e → Near x' y' e' → Near (x + x') (y + y') (e + e')
 near-add h k = omega arith

@@ -32,6 +32,7 @@ nearest-scale k x d hk = ap₂ (λ (m n : ℕ). m / n) (p k x d) (q k d) ∙ mul
   where
     p : (k x d : ℕ) → 2 * (k * x) + k * d ≡ k * (2 * x + d)
     p k x d = omega arith
+
     q : (k d : ℕ) → 2 * (k * d) ≡ k * (2 * d)
     q k d = omega arith
 
@@ -69,5 +70,6 @@ nearest-half x d pos = div-eq-of-lt-le (2 * d) {m = 2 * x + d} (low (mul-div-le 
   where
     low : d * ((x + d / 2) / d) ≤ x + d / 2 → (x + d / 2) / d * (2 * d) ≤ 2 * x + d
     low h = omega arith
+
     high : x + d / 2 < d * ((x + d / 2) / d + 1) → 2 * x + d < ((x + d / 2) / d + 1) * (2 * d)
     high h = omega arith

@@ -7,7 +7,7 @@ use borrow.Author.Tests.{le-leb, eq-eqb, leb-true, eqb-true}
 use lib.Dec.{leb, eqb}
 use Rattle.pricing.specs.Prices.{priceLimit}
 use Rattle.pricing.specs.Products.{find}
-use Rattle.pricing.specs.Value.{valueBy}
+use Rattle.pricing.specs.Value.{valueBy, exactBy, exactOf}
 use Rattle.pricing.specs.Calls.{Answer, given, refused, check, ofProduct, judged, after, valueOf, tickValueOf}
 use Rattle.pricing.specs.declared.products.Code.{Code}
 use Rattle.pricing.specs.declared.products.Product.{Product}
@@ -17,7 +17,7 @@ use Rattle.pricing.specs.declared.contract.Judged.{Judged}
 use Rattle.pricing.specs.declared.contract.Judged.the-variants.{Passed, Failed}
 
 -- two answers that differ
-not-given : {A : Type 0} {k n : ℕ} → refused k ≡ given n → A
+pub not-given : {A : Type 0} {k n : ℕ} → refused k ≡ given n → A
 not-given e = absurd (let z : _≡_ {A = ℕ} 0 1 = cc in omega arith)
 
 not-passed : {A : Type 0} {k : ℕ} → Failed k ≡ Passed → A
@@ -84,3 +84,24 @@ valued code p e =
 pub gives-value : (code : Code) (p : ℕ) {q : Product} → find code ≡ At q → Listed q p → valueOf code p ≡ given (valueBy (q .terms) p)
 unfolding valueOf
 gives-value code p f h = rw (f, passes h)
+
+-- a tick value that is given: the price is listed, the next one is within the limit, and this is their values' difference
+checked : (k : ℕ) (b : Bool) {a : Answer} {n : ℕ} → check k b a ≡ given n → (b ≡ true) × (a ≡ given n)
+checked k true e = (refl, e)
+checked k false e = not-given e
+
+pub tick-valued : (code : Code) (p : ℕ) {d : ℕ} {q : Product} → find code ≡ At q → tickValueOf code p ≡ given d
+    → Listed q p × (valueBy (q .terms) (p + q .tick) - valueBy (q .terms) p ≡ d) × (p + q .tick ≤ priceLimit)
+unfolding tickValueOf
+tick-valued code p {d} {q} f e =
+    let h = answered code p (λ q. check 15 (leb (p + q .tick) priceLimit) (given (valueBy (q .terms) (p + q .tick) - valueBy (q .terms) p))) e in
+    let g = h .found in
+    let same : h .product ≡ q = cc in
+    let l : Listed q p = rw (← same) (h .listed) in
+    let (b, a) = checked 15 (leb (p + q .tick) priceLimit) (rw same at (h .answer)) in
+    (l, cc, leb-true _ _ b)
+
+-- the exact value of a code in the table
+pub exact-of : (code : Code) (p : ℕ) {q : Product} → find code ≡ At q → exactOf code p ≡ exactBy (q .terms) p
+unfolding exactOf
+exact-of code p f = rw f

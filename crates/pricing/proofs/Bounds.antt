@@ -22,6 +22,11 @@ pub bond-divisor : {p : ℕ} → p ≤ priceLimit → (base ≤ bondDivisor p) �
 unfolding bondDivisor yieldAt par priceLimit
 bond-divisor h = omega arith
 
+-- the divisor of a bill is positive
+pub bill-divisor : (days p : ℕ) → 0 < billDivisor days p
+unfolding billDivisor
+bill-divisor days p = omega arith
+
 -- every Vk is at most one whole
 pub factor-cap : {p : ℕ} → p ≤ priceLimit → (k : ℕ) → factor scale (bondDivisor p) k ≤ scale
 factor-cap {p} h k = factor-below scale (bondDivisor p) scale-positive (bond-divisor h .0) k

@@ -26,15 +26,18 @@ step : (d a q r s v v1 w G H E m : ℕ) → 0 < d
     → Near (2 * (w * (G * q * s))) (2 * (d * (H * a * s))) ((m + 2) * (E * r * q))
 step d a q r s v v1 w G H E m pos h1 hv hH hG ih hw =
     near-cancel d pos (near-as
-      (near-then (near-scale (G * q * s) hw) (p₁ v v1 q s G) (near-then (near-scale (v1 * q * s) ih) (p₂ d v1 q s H) (near-scale (d * H * s) h1)))
-      (p₀ d w q s G) (p₃ d a s H) (errors d q r s v1 G H E m hv hH hG))
+    (near-then (near-scale (G * q * s) hw) (p₁ v v1 q s G) (near-then (near-scale (v1 * q * s) ih) (p₂ d v1 q s H) (near-scale (d * H * s) h1)))
+    (p₀ d w q s G) (p₃ d a s H) (errors d q r s v1 G H E m hv hH hG))
   where
     p₀ : (d w q s G : ℕ) → d * (2 * (w * (G * q * s))) ≡ G * q * s * (2 * (w * d))
     p₀ d w q s G = omega arith
+
     p₁ : (v v1 q s G : ℕ) → G * q * s * (2 * (v * v1)) ≡ v1 * q * s * (2 * (v * G))
     p₁ v v1 q s G = omega arith
+
     p₂ : (d v1 q s H : ℕ) → v1 * q * s * (2 * (d * H)) ≡ d * H * s * (2 * (v1 * q))
     p₂ d v1 q s H = omega arith
+
     p₃ : (d a s H : ℕ) → d * H * s * (2 * (a * d)) ≡ d * (2 * (d * (H * a * s)))
     p₃ d a s H = omega arith
 
@@ -48,6 +51,7 @@ sum-step d q r s t v A P G S E n sr ih h =
   where
     p₀ : (q s t v G : ℕ) → 2 * ((t + v) * (G * q * s)) ≡ q * s * (2 * (t * G)) + 2 * (v * (G * q * s))
     p₀ q s t v G = omega arith
+
     p₁ : (d q s A P S : ℕ) → q * s * (2 * (d * (A * S))) + 2 * (d * (P * (S * s))) ≡ 2 * (d * ((A * q + P) * (S * s)))
     p₁ d q s A P S = omega arith
 
@@ -65,9 +69,9 @@ module _ (D q r s : ℕ) (pos : 0 < D) (posq : 0 < q) (sr : s ≤ r) (hv : first
   factor-near (suc k) =
       rw (factor-next D q k, pow-both q s (suc k) k, pow-both base s (suc k) k, pow-both q r (suc k) k)
       (near-as
-        (step D base q r s (factor D q (suc k)) (firstFactor D q) (nearest (factor D q (suc k) * firstFactor D q) D) _ _ _ (2 * k + 1) pos
-          (nearest-near (base * D) q posq) hv (powers-low k) (powers-high k) (factor-near k) (nearest-near (factor D q (suc k) * firstFactor D q) D pos))
-        refl refl (omega arith))
+      (step D base q r s (factor D q (suc k)) (firstFactor D q) (nearest (factor D q (suc k) * firstFactor D q) D) _ _ _ (2 * k + 1) pos
+      (nearest-near (base * D) q posq) hv (powers-low k) (powers-high k) (factor-near k) (nearest-near (factor D q (suc k) * firstFactor D q) D pos))
+      refl refl (omega arith))
 
   -- the sum of n + 1 rungs
   annuity-near : (k : ℕ) → Near (2 * (annuity D q (suc k) * (q ^ suc k * s ^ k))) (2 * (D * (wholeAnnuity q (suc k) * s ^ k))) (suc k * suc k * (q ^ suc k * r ^ k))
@@ -77,7 +81,7 @@ module _ (D q r s : ℕ) (pos : 0 < D) (posq : 0 < q) (sr : s ≤ r) (hv : first
   annuity-near (suc k) =
       rw (annuity-next D q (suc k), whole-next q (suc k), pow-both q s (suc k) k, pow-suc s k, pow-both q r (suc k) k)
       (sum-step D q r s (annuity D q (suc k)) (factor D q (suc (suc k))) (wholeAnnuity q (suc k)) (base ^ suc (suc k)) _ (s ^ k) _ (suc k) sr
-        (annuity-near k) (rw (pow-both q s (suc k) k, pow-suc s k, pow-both q r (suc k) k) at (factor-near (suc k))))
+      (annuity-near k) (rw (pow-both q s (suc k) k, pow-suc s k, pow-both q r (suc k) k) at (factor-near (suc k))))
 
   bracket-near : (c k : ℕ) → Near (2 * (bracket D c (suc k) q * (q ^ suc k * s ^ k))) (2 * (D * (wholeBracket c (suc k) q * s ^ k)))
       ((c * (suc k * suc k) + 200 * suc k - 100) * (q ^ suc k * r ^ k))
@@ -89,8 +93,10 @@ module _ (D q r s : ℕ) (pos : 0 < D) (posq : 0 < q) (sr : s ≤ r) (hv : first
     where
       e₀ : (c t v G : ℕ) → 2 * ((c * t + 100 * v) * G) ≡ c * (2 * (t * G)) + 100 * (2 * (v * G))
       e₀ c t v G = omega arith
+
       e₁ : (c d A P S : ℕ) → c * (2 * (d * (A * S))) + 100 * (2 * (d * (P * S))) ≡ 2 * (d * ((c * A + 100 * P) * S))
       e₁ c d A P S = omega arith
+
       e₂ : (c k E : ℕ) → c * (suc k * suc k * E) + 100 * ((2 * k + 1) * E) ≤ (c * (suc k * suc k) + 200 * suc k - 100) * E
       e₂ c k E = rw (e₃ (c * (suc k * suc k)) k) (omega arith)
         where
@@ -117,11 +123,12 @@ ladder-distance-above D c zero q hD h h40 hq = absurd (omega arith)
 ladder-distance-above D c (suc k) q hD h h40 hq =
     near-cancel (5000 ^ k) (one-le-pow k 5000 (omega arith))
     (widen (bracket D c (suc k) q) (wholeBracket c (suc k) q) D (q ^ suc k) (5051 ^ k) (5000 ^ k) (c * (suc k * suc k) + 200 * suc k - 100)
-      (growth-below 5051 5000 k (39 - k) (omega arith) (omega arith) (rw (upto k (omega arith)) (lit≤ tt)))
-      (bracket-near D q 5051 5000 (omega arith) (omega arith) (omega arith) (first-above D q hD hq) (omega arith) c k))
+    (growth-below 5051 5000 k (39 - k) (omega arith) (omega arith) (rw (upto k (omega arith)) (lit≤ tt)))
+    (bracket-near D q 5051 5000 (omega arith) (omega arith) (omega arith) (first-above D q hD hq) (omega arith) c k))
   where
     upto : (k : ℕ) → k ≤ 39 → k + (39 - k) ≡ 39
     upto k h = omega arith
+
     widen : (b x D Q R S e : ℕ) → 2 * R ≤ 3 * S → Near (2 * (b * (Q * S))) (2 * (D * (x * S))) (e * (Q * R))
         → Near (S * (4 * (b * Q))) (S * (4 * (D * x))) (S * (3 * (e * Q)))
     widen b x D Q R S e g h = near-as (near-scale 2 h) (omega arith) (omega arith) (omega (arith, mul-le-mul-left (e * Q) g))
@@ -132,16 +139,18 @@ discount-above D k q hD hk hq =
     small D k (factor D q (suc k)) (5051 ^ k) (5000 ^ k) hD hk (one-le-pow k 5000 (lit≤ tt))
     (growth-below 5051 5000 k (39 - k) (lit≤ tt) (lit≤ tt) (rw (upto k hk) (lit≤ tt)))
     (le-of-mul-le-mul-left {m = 2 * factor D q (suc k) * (5000 ^ k * 5000)} {n = 2 * D * (5051 ^ k * 5051) + (2 * k + 1) * (5051 ^ k * 5000)} {k = q ^ suc k}
-      (sized D k (factor D q (suc k)) (base ^ suc k) (q ^ suc k) (5051 ^ k) (5000 ^ k)
-        (factor-near D q 5051 5000 (omega arith) (omega arith) (lit≤ tt) (first-above D q hD hq) (omega arith) k .up)
-        (powers-low D q 5051 5000 (omega arith) (omega arith) (lit≤ tt) (first-above D q hD hq) (omega arith) k))
-      (one-le-pow (suc k) q (omega arith)))
+    (sized D k (factor D q (suc k)) (base ^ suc k) (q ^ suc k) (5051 ^ k) (5000 ^ k)
+    (factor-near D q 5051 5000 (omega arith) (omega arith) (lit≤ tt) (first-above D q hD hq) (omega arith) k .up)
+    (powers-low D q 5051 5000 (omega arith) (omega arith) (lit≤ tt) (first-above D q hD hq) (omega arith) k))
+    (one-le-pow (suc k) q (omega arith)))
   where
     upto : (k : ℕ) → k ≤ 39 → k + (39 - k) ≡ 39
     upto k h = omega arith
+
     sized : (D k v P Q R S : ℕ) → 2 * (v * (Q * S)) ≤ 2 * (D * (P * S)) + (2 * k + 1) * (Q * R) → P * S * 5000 ≤ Q * R * 5051
         → Q * (2 * v * (S * 5000)) ≤ Q * (2 * D * (R * 5051) + (2 * k + 1) * (R * 5000))
     sized D k v P Q R S h l = omega (arith, mul-le-mul-left 5000 h, mul-le-mul-left (2 * D) l)
+
     small : (D k v R S : ℕ) → 10000 ≤ D → k ≤ 39 → 0 < S → 2 * R ≤ 3 * S → 2 * v * (S * 5000) ≤ 2 * D * (R * 5051) + (2 * k + 1) * (R * 5000) → v ≤ 2 * D
     small D k v R S hD hk hS g h =
         le-of-mul-le-mul-left {m = v} {n = 2 * D} {k = 20000 * S}

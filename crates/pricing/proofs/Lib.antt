@@ -5,3 +5,6 @@ pub mod Table
 pub mod Bounds
 pub mod Rise
 pub mod Answers
+pub mod Accuracy
+pub mod Bonds
+pub mod Promises

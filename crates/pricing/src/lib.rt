@@ -3,6 +3,7 @@ mod contract;
 mod ladder;
 mod products;
 mod values;
+
 pub use contract::Priced;
 pub use contract::bracket;
 pub use contract::tick_value;

@@ -1,0 +1,124 @@
+-- What is promised of one contract. Open this file first: each law is stated here in the terms of specs/, its argument stands in the file it cites.
+use mathlib.Core.Path.{_≡_, refl, sym, ap, _∙_}
+use mathlib.Core.List.{List, [], _∷_, map}
+use Prim.Native.Nat.{ℕ, _+_, _*_, _-_, _%_, _^_, _≤_, _<_}
+use native.Mathlib.Nat.{add-mod-right}
+use native.Mathlib.Omega.{arith}
+use lib.Dec.{lit≤, leb}
+use lib.IntN.{ℤ, pos, natAbs, _*ℤ_, _-ℤ_}
+use Rattle.numbers.specs.Rounding.{nearest}
+use Rattle.numbers.specs.Nearness.{Near}
+use Rattle.numbers.specs.Fractions.{Fraction, _minus_, _times_, Within, Same}
+use Rattle.numbers.proofs.Rounding.{nearest-scale}
+use Rattle.pricing.specs.Prices.{priceLimit, yieldAt}
+use Rattle.pricing.specs.Products.{find}
+use Rattle.pricing.specs.Ladder.{base, factor, bracket, exactBracket, wholeBracket}
+use Rattle.pricing.specs.Value.{scale, billDividend, billDivisor, bondDivisor, valueBy, exactOf}
+use Rattle.pricing.specs.Calls.{given, valueOf, tickValueOf, bracketOf}
+use Rattle.pricing.specs.Accuracy.{bracketDistanceOf, accuracyOf}
+use Rattle.pricing.specs.declared.products.Code.{Code}
+use Rattle.pricing.specs.declared.products.Product.{Product}
+use Rattle.pricing.specs.declared.products.Found.the-variants.{At}
+use Rattle.pricing.specs.declared.products.Terms.{Terms}
+use Rattle.pricing.specs.declared.products.Terms.the-variants.{Bill, Bond}
+use Rattle.pricing.proofs.Distance as distance
+use Rattle.pricing.proofs.Exact as exact
+use Rattle.pricing.proofs.Table.{sound}
+use Rattle.pricing.proofs.Bounds.{factor-cap, value-by-cap}
+use Rattle.pricing.proofs.Rise.{value-by-rises}
+use Rattle.pricing.proofs.Answers.{valued, gives-value, tick-valued}
+use Rattle.pricing.proofs.Accuracy.{product-accurate}
+use Rattle.pricing.proofs.Bonds.{bracketed, bracket-near}
+
+-- ---- the ladder's distance
+
+-- Over any scale D, for any n from 1, any half coupon c and any yield Y from 0, the ladder's bracket lies within (c n² + 200 n − 100) / 2 units
+-- of the exact one. Both are multiplied by q^n, with q = 2,000,000 + Y, and doubled.
+pub ladder-distance : (D c n Y : ℕ) → 0 < D → 1 ≤ n
+    → Near (2 * (bracket D c n (base + Y) * (base + Y) ^ n)) (2 * (D * wholeBracket c n (base + Y))) ((c * (n * n) + 200 * n - 100) * (base + Y) ^ n)
+ladder-distance D c n Y hD hn = distance.ladder-distance D c n (base + Y) hD hn (omega arith)
+
+-- The exact bracket, c times (v + v² + .. + v^n) + 100 times v^n, is the whole number `wholeBracket` over q^n.
+pub exact-bracket : (c n Y : ℕ) → Same (exactBracket c n (base + Y)) (record { num = wholeBracket c n (base + Y); den = (base + Y) ^ n })
+exact-bracket c n Y = exact.bracket-whole (base + Y) (omega arith) c n
+
+-- The bracket that is given for a bond of the table lies within 604, 2,550 or 5,550 units of the exact one, here times q^n.
+pub bracket-distance : (code : Code) (p : ℕ) {b face c n : ℕ} {q : Product} → find code ≡ At q → q .terms ≡ Bond face c n → bracketOf code p ≡ given b
+    → Near (b * bondDivisor p ^ n) (scale * wholeBracket c n (bondDivisor p)) (bracketDistanceOf code * bondDivisor p ^ n)
+bracket-distance code p {c} {n} {q} f t e =
+    let h = bracketed code p e in
+    let g = h .found in
+    let u = h .terms in
+    let same : h .product ≡ q = cc in
+    let same-c : h .coupon ≡ c = cc in
+    let same-n : h .halves ≡ n = cc in
+    rw (same-c, same-n) at (bracket-near code p h)
+
+-- ---- a rise
+
+-- A higher price never has a lower value, for a bill, a bond and a cash rate contract of any terms.
+pub value-rises-by : (t : Terms) {p p' : ℕ} → p ≤ p' → p' ≤ priceLimit → valueBy t p ≤ valueBy t p'
+value-rises-by = value-by-rises
+
+-- The same for the values that are given for a code.
+pub value-rises : (code : Code) {p p' m m' : ℕ} → p ≤ p' → valueOf code p ≡ given m → valueOf code p' ≡ given m' → m ≤ m'
+value-rises code {p} {p'} l e e' =
+    let h = valued code p e in
+    let h' = valued code p' e' in
+    let s : h' .product ≡ h .product = let f = h .found in let f' = h' .found in cc in
+    rw (← (h .is), ← (h' .is), s) (value-by-rises (h .product .terms) l (h' .listed .within))
+
+-- So a tick value is what the next value has more: the subtraction of naturals in its definition cuts nothing off.
+pub tick-value-adds : (code : Code) (p : ℕ) {d : ℕ} {q : Product} → find code ≡ At q → tickValueOf code p ≡ given d
+    → (m : ℕ) × (valueOf code p ≡ given m) × (valueOf code (p + q .tick) ≡ given (m + d))
+tick-value-adds code p {q = q} f e =
+    let (h, d, g) = tick-valued code p f e in
+    let r = value-by-rises (q .terms) {p = p} {p' = p + q .tick} (omega arith) g in (
+      valueBy (q .terms) p,
+      gives-value code p f h,
+      gives-value code (p + q .tick) f (record { within = g; on-tick = add-mod-right p (q .tick) ∙ h .on-tick }) ∙ ap given (omega arith),
+    )
+
+-- ---- accuracy
+
+-- For any lots and any two prices at which values are given: 1,000 times lots times the difference of the values lies within the product's figure
+-- times the lots without their sign of 1,000 times lots times the difference of the exact values.
+pub accurate : (code : Code) (previous final : ℕ) {m n : ℕ} → valueOf code previous ≡ given m → valueOf code final ≡ given n → (lots : ℤ)
+    → Within (pos 1000 *ℤ (lots *ℤ (pos n -ℤ pos m))) (pos 1000 times lots times (exactOf code final minus exactOf code previous))
+    (accuracyOf code previous final * natAbs lots)
+accurate code previous final e f lots =
+    let h = valued code previous e in
+    let k = valued code final f in
+    let same : k .product ≡ h .product = let g = h .found in let g' = k .found in cc in
+    product-accurate code previous final (h .found) (h .listed) (rw (← same) (k .listed)) (h .is) (rw (← same) (k .is)) lots
+
+-- ---- sizes
+
+-- Every Vk at a price within the limit is at most 100,000,000.
+pub factor-small : {p : ℕ} → p ≤ priceLimit → (k : ℕ) → factor scale (bondDivisor p) k ≤ 100_000_000
+unfolding scale
+factor-small h k = factor-cap h k
+
+-- No value is above 500,000,000 cents.
+pub value-cap : (code : Code) (p : ℕ) {n : ℕ} → valueOf code p ≡ given n → n ≤ 500_000_000
+value-cap code p e =
+    let h = valued code p e in
+    rw (← (h .is)) (value-by-cap (h .listed .within) (h .product .terms) (sound code (sym (h .found)) refl .terms))
+
+-- ---- the table and the formulas
+
+-- A value is given for each code of the table at each price within the limit and on the tick.
+pub value-given : (code : Code) {q : Product} {p : ℕ} → find code ≡ At q → p ≤ priceLimit → p % q .tick ≡ 0 → valueOf code p ≡ given (valueBy (q .terms) p)
+value-given code {p = p} f l t = gives-value code p f (record { within = l; on-tick = t })
+
+-- A product's tick is positive.
+pub tick-positive : (code : Code) {q : Product} → find code ≡ At q → 0 < q .tick
+tick-positive code f = sound code (sym f) refl .tick
+
+-- The bill formula with document 01's numbers: 3,650,000,000,000,000 divided by (36,500,000 + 9 times Y), rounded once.
+pub bill-formula : (p : ℕ) → valueBy (Bill 1_000_000 90) p ≡ nearest 3_650_000_000_000_000 (36_500_000 + 9 * yieldAt p)
+unfolding valueBy billDividend billDivisor
+bill-formula p = rw (e (yieldAt p)) (nearest-scale 10 3_650_000_000_000_000 (36_500_000 + 9 * yieldAt p) (lit≤ tt))
+  where
+    e : (y : ℕ) → 365_000_000 + 90 * y ≡ 10 * (36_500_000 + 9 * y)
+    e y = omega arith
