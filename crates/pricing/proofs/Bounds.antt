@@ -11,7 +11,7 @@ use Rattle.pricing.specs.Ladder.{base, firstFactor, factor, annuity, bra
 use Rattle.pricing.specs.Value.{scale, billDividend, billDivisor, bondDivisor, valueBy, Modest}
 use Rattle.pricing.specs.declared.products.Terms.{Terms}
 use Rattle.pricing.specs.declared.products.Terms.the-variants.{Bill, Bond, CashRate}
-use Rattle.pricing.proofs.Factors.{factor-below, annuity-below}
+use Rattle.pricing.proofs.Factors.{first-below, factor-below, annuity-below}
 
 pub scale-positive : 0 < scale
 unfolding scale
@@ -39,6 +39,22 @@ pub bracket-cap : {c n p : ℕ} → p ≤ priceLimit → c ≤ 3 → n ≤ 40 �
 unfolding bracket scale
 bracket-cap {c} {n} {p} h hc hn =
     omega (arith, mul-le-mul hc (le-trans (annuity-cap h n) (mul-le-mul-right scale hn)), factor-cap h n)
+
+-- the products and quotients' parts that a value is computed from are below 2^63, so that half a divisor more fits 64 bits
+abbrev pub Steps : Terms → ℕ → Type 0
+Steps (Bill face days) p = (billDividend face < 2 ^ 63) × (billDivisor days p < 2 ^ 63)
+Steps (Bond face c n) p = ((k : ℕ) → factor scale (bondDivisor p) k * firstFactor scale (bondDivisor p) < 2 ^ 63) × (bracket scale c n (bondDivisor p) * face < 2 ^ 63)
+Steps (CashRate cents) p = cents * p < 2 ^ 63
+
+pub steps-fit-by : {p : ℕ} → p ≤ priceLimit → (t : Terms) → Modest t → Steps t p
+unfolding billDividend billDivisor yieldAt par priceLimit scale
+steps-fit-by {p} h (Bill face days) s =
+    (omega (arith, s .0), omega (arith, mul-le-mul {m₁ = 1_000_000 - p} {m₂ = 1_000_000} (s .1) (omega arith)))
+steps-fit-by {p} h (Bond face c n) s = (
+  (λ k. omega (arith, mul-le-mul (factor-cap h k) (first-below scale (bondDivisor p) (bond-divisor h .0)))),
+  omega (arith, mul-le-mul (bracket-cap h (s .1) (s .3)) (s .0)),
+)
+steps-fit-by {p} h (CashRate cents) s = omega (arith, mul-le-mul s h)
 
 -- no value is above 500,000,000 cents
 pub value-by-cap : {p : ℕ} → p ≤ priceLimit → (t : Terms) → Modest t → valueBy t p ≤ 500_000_000

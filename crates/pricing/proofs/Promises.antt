@@ -24,7 +24,7 @@ use Rattle.pricing.specs.declared.products.Terms.the-variants.{Bill, Bon
 use Rattle.pricing.proofs.Distance as distance
 use Rattle.pricing.proofs.Exact as exact
 use Rattle.pricing.proofs.Table.{sound}
-use Rattle.pricing.proofs.Bounds.{factor-cap, value-by-cap}
+use Rattle.pricing.proofs.Bounds.{Steps, factor-cap, steps-fit-by, value-by-cap}
 use Rattle.pricing.proofs.Rise.{value-by-rises}
 use Rattle.pricing.proofs.Answers.{valued, gives-value, tick-valued}
 use Rattle.pricing.proofs.Accuracy.{product-accurate}
@@ -98,6 +98,10 @@ accurate code previous final e f lots =
 pub factor-small : {p : ℕ} → p ≤ priceLimit → (k : ℕ) → factor scale (bondDivisor p) k ≤ 100_000_000
 unfolding scale
 factor-small h k = factor-cap h k
+
+-- No step of a value of the table leaves 64 bits.
+pub steps-fit : (code : Code) (p : ℕ) {q : Product} → find code ≡ At q → p ≤ priceLimit → Steps (q .terms) p
+steps-fit code p {q} f h = steps-fit-by h (q .terms) (sound code (sym f) refl .terms)
 
 -- No value is above 500,000,000 cents.
 pub value-cap : (code : Code) (p : ℕ) {n : ℕ} → valueOf code p ≡ given n → n ≤ 500_000_000
