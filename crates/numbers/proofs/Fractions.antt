@@ -9,7 +9,7 @@ use Rattle.numbers.specs.Nearness.{Near}
 use Rattle.numbers.specs.Fractions.{Fraction, _minus_, _times_, Within}
 use Rattle.numbers.proofs.Rounding.{nearest-near, nearest-whole}
 use Rattle.numbers.proofs.Nearness.{near-scale, near-cancel, near-add, near-as, near-sym}
-use Rattle.numbers.proofs.Integers.{Is, is-diff, is-times, is-turned, is-over, is-minus, is-abs}
+use Rattle.numbers.proofs.Integers.{is-diff, is-times, is-turned, is-over, is-minus, is-abs}
 
 -- k times the distance of v from the fraction x is at most a / 2. Two such numbers then differ as their fractions do, up to a / k.
 pub record Close (k a v : ℕ) (x : Fraction) : Type 0 where

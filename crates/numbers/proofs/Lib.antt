@@ -1,3 +1,5 @@
+pub mod Truth
+pub mod Order
 pub mod Rounding
 pub mod Nearness
 pub mod Integers

@@ -1,7 +1,7 @@
 -- Laws of rounding.
-use mathlib.Core.Path.{_≡_, refl, sym, _∙_, ap, ap₂}
+use mathlib.Core.Path.{_≡_, _∙_, ap₂}
 use Prim.Native.Nat.{ℕ, zero, suc, _+_, _*_, _-_, _/_, _%_, _≤_, _<_, zero-le}
-use native.Mathlib.Nat.{mul-div-le, lt-mul-div-succ, le-div-iff-mul-le, mul-le-mul-left, div-eq-of-lt-le, le-of-mul-le-mul-left, mul-pos, mul-div-mul-left, div-zero, div-add-mod, mod-lt}
+use native.Mathlib.Nat.{mul-div-le, lt-mul-div-succ, le-div-iff-mul-le, mul-le-mul-left, div-eq-of-lt-le, mul-div-mul-left, div-zero, div-add-mod, mod-lt}
 use native.Mathlib.Omega.{arith}
 use Rattle.numbers.specs.Rounding.{nearest}
 use Rattle.numbers.specs.Nearness.{Near}

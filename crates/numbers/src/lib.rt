@@ -1,6 +1,12 @@
-// Arithmetic that carries no word of the trade. The laws are in proofs/.
+// What carries no word of the trade: rounding, and the answer of a search. The laws are in proofs/.
 ghost use mathlib.Core.Path.{_≡_};
 ghost use Rattle.numbers.specs.Rounding as rounding;
+
+// An index, or nothing.
+pub enum Found {
+    At(usize),
+    Nothing,
+}
 
 // x / d to the nearest whole number, a half going up; 0 where d is 0.
 pub fn nearest(x: u64, d: u64) -> u64

@@ -1,20 +1,19 @@
 -- How far a value lies from the exact one: by the terms, and by the product.
-use mathlib.Core.Path.{_≡_, refl, sym, _∙_, ap}
+use mathlib.Core.Path.{_≡_, ap}
 use mathlib.Core.Bool.{Bool, true, false, _||_}
-use Prim.Native.Nat.{ℕ, _+_, _*_, _-_, _/_, _%_, _^_, _≤_, _<_}
+use Prim.Native.Nat.{ℕ, _+_, _*_, _-_, _/_, _%_, _≤_, _<_}
 use native.Mathlib.Nat.{mul-le-mul-left, mul-pos, one-le-pow, div-add-mod'}
 use native.Mathlib.Omega.{arith}
 use lib.Dec.{lit≤, T, leb, eqb, leb→le, eqb→eq}
 use Rattle.numbers.specs.Rounding.{nearest}
 use Rattle.numbers.specs.Nearness.{Near}
 use lib.IntN.{ℤ, pos, natAbs, _*ℤ_, _-ℤ_}
-use Rattle.numbers.specs.Fractions.{Fraction, _minus_, _times_, Within}
+use Rattle.numbers.specs.Fractions.{_minus_, _times_, Within}
 use Rattle.numbers.proofs.Rounding.{nearest-near}
 use Rattle.numbers.proofs.Nearness.{near-scale, near-cancel, near-as, near-then}
 use Rattle.numbers.proofs.Fractions.{Close, close-more, close-rounded, close-whole, multiple-within}
 use Rattle.pricing.specs.Prices.{priceLimit}
 use Rattle.pricing.specs.Products.{products, find, sameCode}
-use Rattle.pricing.specs.Ladder.{base, bracket, wholeBracket}
 use Rattle.pricing.specs.Value.{scale, billDividend, billDivisor, bondDivisor, valueBy, exactBy, exactOf}
 use Rattle.pricing.specs.Accuracy.{numberIn, accuracyFigures, accuracyOf}
 use Rattle.pricing.specs.declared.products.Code.{Code}

@@ -1,16 +1,15 @@
 -- The bracket of each bond in the product table, and how far it lies from the exact one.
-use mathlib.Core.Path.{_≡_, refl, subst, sym}
-use Prim.Native.Nat.{ℕ, _+_, _*_, _^_, _≤_, _<_}
+use mathlib.Core.Path.{_≡_, refl}
+use Prim.Native.Nat.{ℕ, _*_, _^_, _≤_}
 use native.Mathlib.Nat.{mul-le-mul-right}
 use native.Mathlib.Omega.{arith}
 use lib.Dec.{lit≤, T, leb, leb→le}
 use Rattle.numbers.specs.Nearness.{Near}
 use Rattle.numbers.proofs.Nearness.{near-cancel, near-as}
-use Rattle.pricing.specs.Prices.{priceLimit}
 use Rattle.pricing.specs.Products.{products, find, sameCode}
 use Rattle.pricing.specs.Ladder.{bracket, wholeBracket}
 use Rattle.pricing.specs.Value.{scale, bondDivisor}
-use Rattle.pricing.specs.Calls.{Answer, given, refused, ofProduct, ofBond, judged, after, bracketOf}
+use Rattle.pricing.specs.Calls.{given, ofProduct, ofBond, judged, after, bracketOf}
 use Rattle.pricing.specs.Accuracy.{numberIn, bracketDistances, bracketDistanceOf}
 use Rattle.pricing.specs.declared.products.Code.{Code}
 use Rattle.pricing.specs.declared.products.Product.{Product}

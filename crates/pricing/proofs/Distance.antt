@@ -1,5 +1,5 @@
 -- How far the ladder's bracket lies from the exact one.
-use mathlib.Core.Path.{_≡_, refl, sym, _∙_, ap}
+use mathlib.Core.Path.{_≡_, refl}
 use Prim.Native.Nat.{ℕ, zero, suc, _+_, _*_, _-_, _^_, _≤_, _<_}
 use native.Mathlib.Nat.{mul-le-mul-left, pow-suc, pow-zero, pow-le-pow-left, one-le-pow, le-of-mul-le-mul-left}
 use native.Mathlib.Omega.{arith}

@@ -1,7 +1,7 @@
 -- The exact bracket times q^n is a whole number.
 use mathlib.Core.Path.{_≡_, ap}
-use Prim.Native.Nat.{ℕ, zero, suc, _+_, _*_, _^_, _≤_, _<_}
-use native.Mathlib.Nat.{mul-pos, one-le-pow, pow-suc, pow-zero}
+use Prim.Native.Nat.{ℕ, zero, suc, _+_, _*_, _^_, _<_}
+use native.Mathlib.Nat.{mul-pos, one-le-pow, pow-suc}
 use native.Mathlib.Omega.{arith}
 use Rattle.numbers.specs.Fractions.{Fraction, _raised_, addedTo, Same}
 use Rattle.numbers.proofs.Sums.{added-none, added-next, added-proper}

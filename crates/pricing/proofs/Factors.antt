@@ -1,11 +1,10 @@
 -- The ladder's factors, step by step: how they follow each other, how large they get, and that they fall as the yield rises.
-use mathlib.Core.Path.{_≡_, refl, ap}
+use mathlib.Core.Path.{_≡_, refl}
 use Prim.Native.Nat.{ℕ, zero, suc, _+_, _*_, _-_, _^_, _≤_, _<_}
 use native.Mathlib.Nat.{mul-le-mul, mul-le-mul-left, add-le-add, le-refl, pow-suc, pow-zero, sub-self}
 use native.Mathlib.Omega.{arith}
 use lib.Dec.{lit≤}
 use Rattle.numbers.specs.Rounding.{nearest}
-use Rattle.numbers.specs.Sums.{sumTo}
 use Rattle.numbers.proofs.Rounding.{nearest-mono, nearest-whole}
 use Rattle.numbers.proofs.Sums.{sum-none, sum-next, sum-scale, sum-rises, sum-low}
 use Rattle.pricing.specs.Ladder.{base, firstFactor, factor, annuity, bracket, wholeAnnuity}

@@ -5,6 +5,7 @@ pub mod Table
 pub mod Bounds
 pub mod Rise
 pub mod Answers
+pub mod Refusals
 pub mod Accuracy
 pub mod Bonds
 pub mod Promises

@@ -1,20 +1,20 @@
 -- What is promised of one contract. Open this file first: each law is stated here in the terms of specs/, its argument stands in the file it cites.
 use mathlib.Core.Path.{_≡_, refl, sym, ap, _∙_}
-use mathlib.Core.List.{List, [], _∷_, map}
 use Prim.Native.Nat.{ℕ, _+_, _*_, _-_, _%_, _^_, _≤_, _<_}
 use native.Mathlib.Nat.{add-mod-right}
 use native.Mathlib.Omega.{arith}
-use lib.Dec.{lit≤, leb}
+use lib.Dec.{lit≤}
 use lib.IntN.{ℤ, pos, natAbs, _*ℤ_, _-ℤ_}
 use Rattle.numbers.specs.Rounding.{nearest}
 use Rattle.numbers.specs.Nearness.{Near}
-use Rattle.numbers.specs.Fractions.{Fraction, _minus_, _times_, Within, Same}
+use Rattle.numbers.specs.Fractions.{_minus_, _times_, Within, Same}
 use Rattle.numbers.proofs.Rounding.{nearest-scale}
 use Rattle.pricing.specs.Prices.{priceLimit, yieldAt}
 use Rattle.pricing.specs.Products.{find}
 use Rattle.pricing.specs.Ladder.{base, factor, bracket, exactBracket, wholeBracket}
 use Rattle.pricing.specs.Value.{scale, billDividend, billDivisor, bondDivisor, valueBy, exactOf}
 use Rattle.pricing.specs.Calls.{given, valueOf, tickValueOf, bracketOf}
+use Rattle.pricing.specs.Conditions.{valueFaults, tickValueFaults, bracketFaults, Exactly}
 use Rattle.pricing.specs.Accuracy.{bracketDistanceOf, accuracyOf}
 use Rattle.pricing.specs.declared.products.Code.{Code}
 use Rattle.pricing.specs.declared.products.Product.{Product}
@@ -28,6 +28,7 @@ use Rattle.pricing.proofs.Bounds.{Steps, factor-cap, steps-fit-by, valu
 use Rattle.pricing.proofs.Rise.{value-by-rises}
 use Rattle.pricing.proofs.Answers.{valued, gives-value, tick-valued}
 use Rattle.pricing.proofs.Accuracy.{product-accurate}
+use Rattle.pricing.proofs.Refusals as refusals
 use Rattle.pricing.proofs.Bonds.{bracketed, bracket-near}
 
 -- ---- the ladder's distance
@@ -53,6 +54,18 @@ bracket-distance code p {c} {n} {q} f t e =
     let same-c : h .coupon ≡ c = cc in
     let same-n : h .halves ≡ n = cc in
     rw (same-c, same-n) at (bracket-near code p h)
+
+-- ---- refusals
+
+-- Each call is turned away with a number exactly where that check's condition holds and no earlier one does, and answers exactly where none holds.
+pub value-exactly : (code : Code) (p : ℕ) → Exactly code p valueFaults (valueOf code p)
+value-exactly = refusals.value-exactly
+
+pub tick-value-exactly : (code : Code) (p : ℕ) → Exactly code p tickValueFaults (tickValueOf code p)
+tick-value-exactly = refusals.tick-value-exactly
+
+pub bracket-exactly : (code : Code) (p : ℕ) → Exactly code p bracketFaults (bracketOf code p)
+bracket-exactly = refusals.bracket-exactly
 
 -- ---- a rise
 

@@ -1,13 +1,10 @@
 -- A higher price never has a lower value.
-use mathlib.Core.Path.{_≡_}
-use Prim.Native.Nat.{ℕ, _+_, _*_, _-_, _≤_, _<_}
+use Prim.Native.Nat.{ℕ, _≤_}
 use native.Mathlib.Nat.{mul-le-mul-left, mul-le-mul-right, add-le-add, le-refl}
 use native.Mathlib.Omega.{arith}
 use lib.Dec.{lit<}
-use Rattle.numbers.specs.Rounding.{nearest}
 use Rattle.numbers.proofs.Rounding.{nearest-mono}
-use Rattle.pricing.specs.Prices.{par, priceLimit, yieldAt}
-use Rattle.pricing.specs.Ladder.{base}
+use Rattle.pricing.specs.Prices.{priceLimit, yieldAt}
 use Rattle.pricing.specs.Value.{scale, billDivisor, bondDivisor, valueBy}
 use Rattle.pricing.specs.declared.products.Terms.{Terms}
 use Rattle.pricing.specs.declared.products.Terms.the-variants.{Bill, Bond, CashRate}

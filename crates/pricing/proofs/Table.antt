@@ -1,20 +1,20 @@
 -- Laws of the product table: what a search finds, and what holds of every line.
 use mathlib.Core.Path.{_≡_, refl, sym, subst, ap₂, _∙_}
-use mathlib.Core.List.{List, [], _∷_}
+use mathlib.Core.List.{List, [], _∷_, List·Memᴰ, List·Memᴰ·head, List·Memᴰ·tail, List·Memᴰ·not-nil}
 use mathlib.Core.Bool.{Bool, true, false, cond, _&&_}
-use Prim.Native.Nat.{ℕ, suc, _+_, _<_, _≤_}
+use Prim.Native.Nat.{ℕ, _+_, _<_, _≤_}
 use native.Mathlib.Omega.{arith}
 use native.Mathlib.Numerals.{add-one}
-use borrow.Author.Tests.{eqb-true}
+use borrow.Author.Tests.{eqb-true, eq-eqb}
 use lib.Dec.{eqb}
 use lib.ListN.{length, getD, drop}
 use lib.Seq.{drop-cons}
-use Rattle.pricing.specs.Products.{products, noProduct, sameCode, findIn, find, hasMonth}
+use Rattle.pricing.specs.Products.{products, noProduct, sameCode, findIn, find}
 use Rattle.pricing.specs.Value.{Modest}
 use Rattle.pricing.specs.declared.products.Code.{Code}
 use Rattle.pricing.specs.declared.products.Product.{Product}
 use Rattle.pricing.specs.declared.products.Found.{Found}
-use Rattle.pricing.specs.declared.products.Found.the-variants.{At}
+use Rattle.pricing.specs.declared.products.Found.the-variants.{At, Missing}
 
 -- a search from line i on finds that line where it has the code, and else what a search from the next line on finds
 module _ (qs : List Product) (i : ℕ) (a : Code) (h : i < length qs) where
@@ -53,6 +53,10 @@ same-code a b e =
     let (f, g) = both-true (eqb (a .0) (b .0)) (eqb (a .1) (b .1)) e in
     ap₂ (λ (x y : ℕ). record { 0 = x; 1 = y }) (eqb-true _ _ f) (eqb-true _ _ g)
 
+pub same-code-self : (a : Code) → sameCode a a ≡ true
+unfolding sameCode
+same-code-self a = rw (eq-eqb (a .0) (a .0) refl, eq-eqb (a .1) (a .1) refl)
+
 module _ {q : Product} where
   found-by : (b : Bool) (a : Code) (r : Product) {f : Found} → (b ≡ true → a ≡ r .code) → (f ≡ At q → q .code ≡ a) → cond b (At r) f ≡ At q → q .code ≡ a
   found-by true a r h g e = let d : r ≡ q = cc in rw (← d) (sym (h refl))
@@ -66,6 +70,36 @@ module _ {q : Product} where
 pub found-code : (a : Code) {q : Product} → find a ≡ At q → q .code ≡ a
 unfolding find
 found-code a e = found-code-in products a e
+
+-- a line that is found is one of the table's
+pub found-member : (a : Code) {q : Product} → find a ≡ At q → List·Memᴰ q products
+unfolding find findIn
+found-member a e = in-table products a e
+  where
+    here : (b : Bool) {q r : Product} {qs : List Product} {f : Found} → (f ≡ At q → List·Memᴰ q qs) → cond b (At r) f ≡ At q → List·Memᴰ q (r ∷ qs)
+    here true {q} {r} g e = let d : q ≡ r = cc in List·Memᴰ·head d
+    here false g e = List·Memᴰ·tail (g e)
+
+    in-table : (qs : List Product) (a : Code) {q : Product} → findIn qs a ≡ At q → List·Memᴰ q qs
+    in-table [] a e = absurd (let z : _≡_ {A = ℕ} 0 1 = cc in omega arith)
+    in-table (r ∷ qs) a e = here (sameCode a (r .code)) (in-table qs a) e
+
+-- and where none is found no line has the code
+pub missing-none : (a : Code) → find a ≡ Missing → (q : Product) → List·Memᴰ q products → ¬ (q .code ≡ a)
+unfolding find findIn
+missing-none a e = in-table products e
+  where
+    later : (b : Bool) (r : Product) (f : Found) → cond b (At r) f ≡ Missing → (b ≡ false) × (f ≡ Missing)
+    later true r f e = absurd (let z : _≡_ {A = ℕ} 0 1 = cc in omega arith)
+    later false r f e = (refl, e)
+
+    in-table : (qs : List Product) → findIn qs a ≡ Missing → (q : Product) → List·Memᴰ q qs → ¬ (q .code ≡ a)
+    in-table [] e q m c = absurd (List·Memᴰ·not-nil m)
+    in-table (r ∷ qs) e q (List·Memᴰ·head d) c =
+        let same : sameCode a (r .code) ≡ true = rw (← d, c) (same-code-self a) in
+        let other = later (sameCode a (r .code)) r (findIn qs a) e .0 in
+        absurd (let z : _≡_ {A = ℕ} 0 1 = cc in omega arith)
+    in-table (r ∷ qs) e q (List·Memᴰ·tail m) c = in-table qs (later (sameCode a (r .code)) r (findIn qs a) e .1) q m c
 
 -- the lines of the product table have modest terms and a tick
 pub record Sound (q : Product) : Type 0 where

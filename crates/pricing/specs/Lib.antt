@@ -3,5 +3,6 @@ pub mod Products
 pub mod Ladder
 pub mod Value
 pub mod Calls
+pub mod Conditions
 pub mod Accuracy
 pub mod Figures

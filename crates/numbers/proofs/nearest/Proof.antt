@@ -1,8 +1,7 @@
 -- `nearest` meets its contract: by the remainder, with no sum that could wrap.
-use mathlib.Core.Path.{_≡_, sym, ap, _∙_}
+use mathlib.Core.Path.{sym}
 use borrow.Author.Needs.{needs}
 use native.Mathlib.Omega.{arith}
-use Rattle.numbers.specs.Rounding.{nearest}
 use Rattle.numbers.proofs.Rounding.{nearest-none, rest-below, nearest-down, nearest-up, quotient-below}
 use Rattle.numbers.proofs.nearest.Statement.{statement}
 use Rattle.numbers.proofs.nearest.Tie as tie

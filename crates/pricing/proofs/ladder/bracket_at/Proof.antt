@@ -1,5 +1,5 @@
 -- `bracket_at` meets its contract. The invariant: v and sum are Vk and V1 + .. + Vk.
-use mathlib.Core.Path.{_≡_, refl, sym, _∙_}
+use mathlib.Core.Path.{_≡_, sym, _∙_}
 use Prim.Native.Nat.{ℕ, zero, suc, _+_, _*_, _-_, _≤_, _<_}
 use native.Mathlib.Nat.{mul-le-mul, le-trans, mul-le-mul-right}
 use native.Mathlib.Numerals.{add-one}
@@ -7,7 +7,7 @@ use native.Mathlib.Omega.{arith}
 use borrow.Author.Needs.{needs}
 use Rattle.numbers.specs.Rounding.{nearest}
 use Rattle.pricing.specs.Prices.{priceLimit}
-use Rattle.pricing.specs.Ladder.{base, firstFactor, factor, annuity, bracket}
+use Rattle.pricing.specs.Ladder.{firstFactor, factor, annuity, bracket}
 use Rattle.pricing.specs.Value.{scale, bondDivisor}
 use Rattle.pricing.proofs.Factors.{factor-first, factor-next, annuity-none, annuity-next}
 use Rattle.pricing.proofs.Bounds.{factor-cap, annuity-cap}

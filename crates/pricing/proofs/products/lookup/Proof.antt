@@ -1,6 +1,6 @@
 -- `lookup` meets its contract. The loop's invariant: a search from line i on finds what a search of the whole table finds.
 use Prim.Native.Nat.{ℕ, _≤_, _<_, _-_}
-use mathlib.Core.Path.{_≡_, refl, sym, _∙_}
+use mathlib.Core.Path.{_≡_, refl}
 use borrow.Author.Needs.{needs}
 use native.Mathlib.Omega.{arith}
 use lib.ListN.{drop, length}

@@ -1,0 +1,72 @@
+-- Tests and what they tell: a test is true exactly where a statement holds.
+use mathlib.Core.Path.{_≡_, refl, sym, _∙_}
+use mathlib.Core.Bool.{Bool, true, false, not, _||_, _&&_}
+use mathlib.Core.Logic.{_⊎_, inl, inr, ⊎-elim}
+use Prim.Native.Nat.{ℕ, _%_, _≤_, _<_, _∣_}
+use native.Mathlib.Nat.{dvd-iff-mod-eq-zero}
+use native.Mathlib.Omega.{arith}
+use lib.Dec.{leb, ltb, eqb}
+use lib.IntN.{ℤ}
+use lib.Signed.{ltZ, _<ℤ_}
+use borrow.Author.Tests.{ltb-true, ltb-false, leb-true, leb-false, eqb-true, eqb-false, not-true, not-false}
+
+-- b is true exactly where A holds
+pub record Tells (b : Bool) (A : Type 0) : Type 0 where
+  pub yes : b ≡ true → A
+  pub no : b ≡ false → ¬ A
+
+pub not-both : {A : Type 0} {b : Bool} → b ≡ true → b ≡ false → A
+not-both p q = absurd (let z : _≡_ {A = ℕ} 0 1 = (let w : true ≡ false = sym p ∙ q in cc) in omega arith)
+
+-- a test of what holds
+pub told : (b : Bool) {A : Type 0} → Tells b A → A → b ≡ true
+told true t a = refl
+told false t a = absurd (t .no refl a)
+
+pub denied : (b : Bool) {A : Type 0} → Tells b A → ¬ A → b ≡ false
+denied true t n = absurd (n (t .yes refl))
+denied false t n = refl
+
+-- the same in other words
+pub tells-as : {b : Bool} {A B : Type 0} → (A → B) → (B → A) → Tells b A → Tells b B
+tells-as f g t = record { yes = λ e. f (t .yes e); no = λ e x. t .no e (g x) }
+
+pub tells-or : (a b : Bool) {A B : Type 0} → Tells a A → Tells b B → Tells (a || b) (A ⊎ B)
+tells-or true b s t = record { yes = λ e. inl (s .yes refl); no = λ e. not-both refl e }
+tells-or false b s t = record { yes = λ e. inr (t .yes e); no = λ e. ⊎-elim (s .no refl) (t .no e) }
+
+pub tells-and : (a b : Bool) {A B : Type 0} → Tells a A → Tells b B → Tells (a && b) (A × B)
+tells-and true b s t = record { yes = λ e. (s .yes refl, t .yes e); no = λ e x. t .no e (x .1) }
+tells-and false b s t = record { yes = λ e. not-both e refl; no = λ e x. s .no refl (x .0) }
+
+pub tells-not : (b : Bool) {A : Type 0} → Tells b A → Tells (not b) (¬ A)
+tells-not true t = record { yes = λ e. not-both e refl; no = λ e n. n (t .yes refl) }
+tells-not false t = record { yes = λ e. t .no refl; no = λ e. not-both refl e }
+
+-- one of two is wrong
+pub tells-either : (a b : Bool) {A B : Type 0} → Tells (not a) A → Tells (not b) B → Tells (not (a && b)) (A ⊎ B)
+tells-either true b s t = record { yes = λ e. inr (t .yes e); no = λ e. ⊎-elim (s .no refl) (t .no e) }
+tells-either false b s t = record { yes = λ e. inl (s .yes refl); no = λ e. not-both refl e }
+
+-- ---- numbers
+
+pub tells-lt : (m n : ℕ) → Tells (ltb m n) (m < n)
+tells-lt m n = record { yes = ltb-true m n; no = λ e h. (let k = ltb-false m n e in omega arith) }
+
+pub tells-le : (m n : ℕ) → Tells (leb m n) (m ≤ n)
+tells-le m n = record { yes = leb-true m n; no = λ e h. (let k = leb-false m n e in omega arith) }
+
+pub tells-above : (m n : ℕ) → Tells (not (leb m n)) (n < m)
+tells-above m n = record { yes = λ e. leb-false m n (not-true (leb m n) e); no = λ e h. (let k = leb-true m n (not-false (leb m n) e) in omega arith) }
+
+pub tells-eq : (m n : ℕ) → Tells (eqb m n) (m ≡ n)
+tells-eq m n = record { yes = eqb-true m n; no = eqb-false m n }
+
+pub tells-divides : (t p : ℕ) → Tells (eqb (p % t) 0) (t ∣ p)
+tells-divides t p = tells-as (dvd-iff-mod-eq-zero t .1) (dvd-iff-mod-eq-zero t .0) (tells-eq (p % t) 0)
+
+pub tells-less : (a b : ℤ) → Tells (ltZ a b) (a <ℤ b)
+tells-less a b = by-test (ltZ a b) refl
+  where
+    by-test : (t : Bool) → ltZ a b ≡ t → Tells (ltZ a b) (a <ℤ b)
+    by-test t e = record { yes = λ p. record { lt = rw p tt }; no = λ p h. rw p at (h .lt) }

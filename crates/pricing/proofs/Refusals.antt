@@ -1,0 +1,223 @@
+-- A single-contract call is turned away exactly by the first of its checks whose condition holds.
+use mathlib.Core.Path.{_≡_, refl, sym, ap, subst, _∙_}
+use mathlib.Core.Bool.{Bool, true, false, not, cond}
+use mathlib.Core.List.{List}
+use mathlib.Core.Logic.{_↔_}
+use Prim.Native.Nat.{ℕ, _+_, _-_, _%_, _<_, _∣_}
+use native.Mathlib.Omega.{arith}
+use lib.Dec.{leb, eqb}
+use Rattle.numbers.specs.Order.{Decides, Clear}
+use Rattle.numbers.specs.declared.Found as found
+use Rattle.numbers.specs.declared.Found.the-variants as index
+use Rattle.numbers.proofs.Truth.{Tells, not-both, tells-as, tells-not, tells-above, tells-divides}
+use Rattle.numbers.proofs.Order.{Finds, finds-whole, Decision, met, clear, pick, decision, met-exactly, clear-exactly}
+use Rattle.pricing.specs.Prices.{priceLimit}
+use Rattle.pricing.specs.Products.{find}
+use Rattle.pricing.specs.Ladder.{bracket}
+use Rattle.pricing.specs.Value.{scale, bondDivisor, valueBy}
+use Rattle.pricing.specs.Calls.{Answer, given, refused, check, ofProduct, ofBond, judged, after, valueOf, tickValueOf, bracketOf}
+use Rattle.pricing.specs.Conditions.{Unlisted, Fault, NoProduct, NoBond, AboveLimit, OffTick, NextAboveLimit, faultNumber, Holds, valueFaults, tickValueFaults, bracketFaults, Exactly}
+use Rattle.pricing.specs.declared.products.Code.{Code}
+use Rattle.pricing.specs.declared.products.Product.{Product}
+use Rattle.pricing.specs.declared.products.Found.{Found}
+use Rattle.pricing.specs.declared.products.Found.the-variants.{At, Missing}
+use Rattle.pricing.specs.declared.products.Terms.{Terms}
+use Rattle.pricing.specs.declared.products.Terms.the-variants.{Bill, Bond, CashRate}
+use Rattle.pricing.specs.declared.contract.Judged.the-variants.{Passed, Failed}
+use Rattle.pricing.proofs.Table.{found-code, found-member, missing-none}
+
+-- ---- the tests, by what a lookup found
+
+abbrev missing : Found → Bool
+missing (At q) = false
+missing Missing = true
+
+abbrev isBond : Terms → Bool
+isBond (Bill face days) = false
+isBond (Bond face c n) = true
+isBond (CashRate cents) = false
+
+abbrev noBond : Found → Bool
+noBond (At q) = not (isBond (q .terms))
+noBond Missing = true
+
+abbrev offTick : Found → ℕ → Bool
+offTick (At q) p = not (eqb (p % q .tick) 0)
+offTick Missing p = false
+
+abbrev nextAbove : Found → ℕ → Bool
+nextAbove (At q) p = not (leb (p + q .tick) priceLimit)
+nextAbove Missing p = false
+
+abbrev testOf : Found → ℕ → Fault → Bool
+testOf f p NoProduct = missing f
+testOf f p NoBond = noBond f
+testOf f p AboveLimit = not (leb p priceLimit)
+testOf f p OffTick = offTick f p
+testOf f p NextAboveLimit = nextAbove f p
+
+abbrev finding : Found → ℕ → Fault → found.Found
+finding f p c = cond (testOf f p c) (index.At 0) index.Nothing
+
+-- ---- what each test tells of the code and the price
+
+module _ (code : Code) (p : ℕ) where
+  tells-missing : (f : Found) → find code ≡ f → Tells (missing f) (Unlisted code)
+  tells-missing (At q) e = record { yes = λ b. not-both b refl; no = λ b h. h q (found-member code e) (found-code code e) }
+  tells-missing Missing e = record { yes = λ b. missing-none code e; no = λ b. not-both refl b }
+
+  -- a statement about the product that was found
+  of-product : {A : Product → Type 0} {q : Product} {b : Bool} → find code ≡ At q → Tells b (A q) → Tells b ((r : Product) × (find code ≡ At r) × A r)
+  of-product {A} {q} e t = tells-as (λ a. (q, e, a)) (λ x. let (r, g, a) = x in let same : r ≡ q = cc in subst A same a) t
+
+  -- is about none where none was found
+  of-none : {A : Product → Type 0} → find code ≡ Missing → Tells false ((r : Product) × (find code ≡ At r) × A r)
+  of-none e = record { yes = λ b. not-both b refl; no = λ b x. let g = x .1 in absurd (let z : _≡_ {A = ℕ} 0 1 = cc in omega arith) }
+
+  tells-off-tick : (f : Found) → find code ≡ f → Tells (offTick f p) ((q : Product) × (find code ≡ At q) × ¬ (q .tick ∣ p))
+  tells-off-tick (At q) e = of-product {A = λ r. ¬ (r .tick ∣ p)} e (tells-not (eqb (p % q .tick) 0) (tells-divides (q .tick) p))
+  tells-off-tick Missing e = of-none {A = λ r. ¬ (r .tick ∣ p)} e
+
+  tells-next-above : (f : Found) → find code ≡ f → Tells (nextAbove f p) ((q : Product) × (find code ≡ At q) × (priceLimit < p + q .tick))
+  tells-next-above (At q) e = of-product {A = λ r. priceLimit < p + r .tick} e (tells-above (p + q .tick) priceLimit)
+  tells-next-above Missing e = of-none {A = λ r. priceLimit < p + r .tick} e
+
+  tells-no-bond : (f : Found) → find code ≡ f → Tells (noBond f) ((q : Product) → find code ≡ At q → (face c n : ℕ) → ¬ (q .terms ≡ Bond face c n))
+  tells-no-bond Missing e =
+      record { yes = λ b q g. absurd (let z : _≡_ {A = ℕ} 0 1 = cc in omega arith); no = λ b. not-both refl b }
+  tells-no-bond (At q) e = by-terms (q .terms) refl
+    where
+      other : (t : Terms) → q .terms ≡ t → isBond t ≡ false → (r : Product) → find code ≡ At r → (face c n : ℕ) → ¬ (r .terms ≡ Bond face c n)
+      other t d b r g face c n h =
+          let same : r ≡ q = cc in
+          let w : t ≡ Bond face c n = cc in
+          not-both refl (rw w at b)
+
+      by-terms : (t : Terms) → q .terms ≡ t → Tells (not (isBond t)) ((r : Product) → find code ≡ At r → (face c n : ℕ) → ¬ (r .terms ≡ Bond face c n))
+      by-terms (Bill face days) d = record { yes = λ b. other (Bill face days) d refl; no = λ b. not-both refl b }
+      by-terms (CashRate cents) d = record { yes = λ b. other (CashRate cents) d refl; no = λ b. not-both refl b }
+      by-terms (Bond face c n) d = record { yes = λ b. not-both b refl; no = λ b h. h q e face c n d }
+
+  finds : (c : Fault) → Finds (Holds code p c) (finding (find code) p c)
+  finds NoProduct = finds-whole (missing (find code)) (tells-missing (find code) refl)
+  finds NoBond = finds-whole (noBond (find code)) (tells-no-bond (find code) refl)
+  finds AboveLimit = finds-whole (not (leb p priceLimit)) (tells-above p priceLimit)
+  finds OffTick = finds-whole (offTick (find code) p) (tells-off-tick (find code) refl)
+  finds NextAboveLimit = finds-whole (nextAbove (find code) p) (tells-next-above (find code) refl)
+
+-- ---- the answers go by the decision
+
+-- the refusal that a decision says, else the answer a
+abbrev answerBy : Decision → Answer → Answer
+answerBy (met k i) a = refused k
+answerBy clear a = a
+
+abbrev decide : Found → ℕ → List Fault → Decision
+decide f p = decision faultNumber (finding f p)
+
+-- checks 6 and 7, then what follows
+by-price : (b d : Bool) (a : Answer) (rest : Decision) → after (cond b (cond d Passed (Failed 7)) (Failed 6)) (answerBy rest a)
+    ≡ answerBy (pick (cond (not b) (index.At 0) index.Nothing) 6 (pick (cond (not d) (index.At 0) index.Nothing) 7 rest)) a
+by-price true true a rest = refl
+by-price true false a rest = refl
+by-price false d a rest = refl
+
+by-next : (b : Bool) (a : Answer) → check 15 b a ≡ answerBy (pick (cond (not b) (index.At 0) index.Nothing) 15 clear) a
+by-next true a = refl
+by-next false a = refl
+
+-- the number asked for of the product that was found
+abbrev valueIn : ℕ → Found → ℕ
+valueIn p (At q) = valueBy (q .terms) p
+valueIn p Missing = 0
+
+abbrev tickValueIn : ℕ → Found → ℕ
+tickValueIn p (At q) = valueBy (q .terms) (p + q .tick) - valueBy (q .terms) p
+tickValueIn p Missing = 0
+
+abbrev bracketBy : ℕ → Terms → ℕ
+bracketBy p (Bill face days) = 0
+bracketBy p (Bond face c n) = bracket scale c n (bondDivisor p)
+bracketBy p (CashRate cents) = 0
+
+abbrev bracketIn : ℕ → Found → ℕ
+bracketIn p (At q) = bracketBy p (q .terms)
+bracketIn p Missing = 0
+
+by-value : (f : Found) (p : ℕ) → ofProduct f (λ q. after (judged (q .tick) p) (given (valueBy (q .terms) p))) ≡ answerBy (decide f p valueFaults) (given (valueIn p f))
+unfolding judged
+by-value Missing p = refl
+by-value (At q) p = by-price (leb p priceLimit) (eqb (p % q .tick) 0) (given (valueBy (q .terms) p)) clear
+
+by-tick-value : (f : Found) (p : ℕ)
+    → ofProduct f (λ q. after (judged (q .tick) p) (check 15 (leb (p + q .tick) priceLimit) (given (valueBy (q .terms) (p + q .tick) - valueBy (q .terms) p))))
+    ≡ answerBy (decide f p tickValueFaults) (given (tickValueIn p f))
+unfolding judged
+by-tick-value Missing p = refl
+by-tick-value (At q) p =
+    let a = given (valueBy (q .terms) (p + q .tick) - valueBy (q .terms) p) in
+    ap (after (judged (q .tick) p)) (by-next (leb (p + q .tick) priceLimit) a)
+    ∙ by-price (leb p priceLimit) (eqb (p % q .tick) 0) a (pick (cond (not (leb (p + q .tick) priceLimit)) (index.At 0) index.Nothing) 15 clear)
+
+by-bracket : (f : Found) (p : ℕ)
+    → ofProduct f (λ q. ofBond (q .terms) (λ c n. after (judged (q .tick) p) (given (bracket scale c n (bondDivisor p)))))
+    ≡ answerBy (decide f p bracketFaults) (given (bracketIn p f))
+unfolding judged
+by-bracket Missing p = refl
+by-bracket (At q) p = by-terms (q .terms)
+  where
+    by-terms : (t : Terms) → ofBond t (λ c n. after (judged (q .tick) p) (given (bracket scale c n (bondDivisor p))))
+        ≡ answerBy (pick (cond (not (isBond t)) (index.At 0) index.Nothing) 4 (pick (cond (not (leb p priceLimit)) (index.At 0) index.Nothing) 6 (pick (cond (not (eqb (p % q .tick) 0)) (index.At 0) index.Nothing) 7 clear))) (given (bracketBy p t))
+    by-terms (Bill face days) = refl
+    by-terms (CashRate cents) = refl
+    by-terms (Bond face c n) = by-price (leb p priceLimit) (eqb (p % q .tick) 0) (given (bracket scale c n (bondDivisor p))) clear
+
+-- ---- exactly
+
+-- a call with these checks, whose answer goes by their decision
+module _ (code : Code) (p : ℕ) (faults : List Fault) (answer : Answer) (n : ℕ) (by : answer ≡ answerBy (decide (find code) p faults) (given n)) where
+  refused-by : (d : Decision) {k : ℕ} → answerBy d (given n) ≡ refused k → (i : ℕ) × (d ≡ met k i)
+  refused-by (met k i) e = (i, cc)
+  refused-by clear e = absurd (let z : _≡_ {A = ℕ} 0 1 = cc in omega arith)
+
+  given-by : (d : Decision) {m : ℕ} → answerBy d (given n) ≡ given m → d ≡ clear
+  given-by (met k i) e = absurd (let z : _≡_ {A = ℕ} 0 1 = cc in omega arith)
+  given-by clear e = refl
+
+  refused-exactly : {k : ℕ} → (answer ≡ refused k) ↔ Decides faultNumber (Holds code p) faults k 0
+  refused-exactly {k} = (
+    (λ e. let (i, g) = refused-by (decide (find code) p faults) (sym by ∙ e) in let d = met-exactly faultNumber (finding (find code) p) (finds code p) faults .0 g in first-record d),
+    (λ d. by ∙ ap (λ x. answerBy x (given n)) (met-exactly faultNumber (finding (find code) p) (finds code p) faults .1 d)),
+  )
+    where
+      zero-at : (c : Fault) (i : ℕ) → Holds code p c i → i ≡ 0
+      zero-at NoProduct i h = h .0
+      zero-at NoBond i h = h .0
+      zero-at AboveLimit i h = h .0
+      zero-at OffTick i h = h .0
+      zero-at NextAboveLimit i h = h .0
+
+      first-record : {i : ℕ} → Decides faultNumber (Holds code p) faults k i → Decides faultNumber (Holds code p) faults k 0
+      first-record {i} d = rw (← (zero-at (d .condition) i (d .here))) d
+
+  given-exactly : ((m : ℕ) × (answer ≡ given m)) ↔ Clear (Holds code p) faults
+  given-exactly = (
+    (λ x. clear-exactly faultNumber (finding (find code) p) (finds code p) faults .0 (given-by (decide (find code) p faults) (sym by ∙ x .1))),
+    (λ h. (n, by ∙ ap (λ x. answerBy x (given n)) (clear-exactly faultNumber (finding (find code) p) (finds code p) faults .1 h))),
+  )
+
+exactly : (code : Code) (p : ℕ) (faults : List Fault) (answer : Answer) (n : ℕ) → answer ≡ answerBy (decide (find code) p faults) (given n) → Exactly code p faults answer
+exactly code p faults answer n by = record { turned = λ k. refused-exactly code p faults answer n by; answers = given-exactly code p faults answer n by }
+
+module _ (code : Code) (p : ℕ) where
+  pub value-exactly : Exactly code p valueFaults (valueOf code p)
+  unfolding valueOf
+  value-exactly = exactly code p valueFaults (valueOf code p) (valueIn p (find code)) (by-value (find code) p)
+
+  pub tick-value-exactly : Exactly code p tickValueFaults (tickValueOf code p)
+  unfolding tickValueOf
+  tick-value-exactly = exactly code p tickValueFaults (tickValueOf code p) (tickValueIn p (find code)) (by-tick-value (find code) p)
+
+  pub bracket-exactly : Exactly code p bracketFaults (bracketOf code p)
+  unfolding bracketOf
+  bracket-exactly = exactly code p bracketFaults (bracketOf code p) (bracketIn p (find code)) (by-bracket (find code) p)
