@@ -114,12 +114,3 @@ pub +ℤ-*ℤ : (a b c : ℤ) → (a +ℤ b) *ℤ c ≡ a *ℤ c +ℤ b *ℤ c
 pub *ℤ-assoc : (a b c : ℤ) → a *ℤ b *ℤ c ≡ a *ℤ (b *ℤ c)
 *ℤ-assoc a b c =
     is-equal (is-mul (is-mul (is-self a) (is-self b)) (is-self c)) (is-mul (is-self a) (is-mul (is-self b) (is-self c))) (omega arith)
-
-pub natAbs-+ℤ : (a b : ℤ) → natAbs (a +ℤ b) ≤ natAbs a + natAbs b
-natAbs-+ℤ a b = is-abs (is-add (is-self a) (is-self b)) (near a b)
-  where
-    near : (a b : ℤ) → Near (above a + above b) (below a + below b) (natAbs a + natAbs b)
-    near (pos m) (pos n) = omega arith
-    near (pos m) (negsuc n) = omega arith
-    near (negsuc m) (pos n) = omega arith
-    near (negsuc m) (negsuc n) = omega arith

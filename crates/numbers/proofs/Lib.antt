@@ -1,8 +1,16 @@
 pub mod Truth
+pub mod Chain
+pub mod Searches
+pub mod Counting
 pub mod Order
+pub mod Tables
+pub mod Sections
 pub mod Rounding
 pub mod Nearness
-pub mod Integers
 pub mod Powers
 pub mod Sums
+pub mod Integers
+pub mod Signed
+pub mod Signs
+pub mod SignedSums
 pub mod Fractions

@@ -1,13 +1,14 @@
 -- The first condition in an order that holds anywhere decides.
 use mathlib.Core.Path.{_≡_, refl, sym, ap, _∙_}
-use mathlib.Core.Bool.{Bool, true, false, cond}
+use mathlib.Core.Bool.{Bool, true, false, not, cond}
 use mathlib.Core.List.{List, [], _∷_, _++_, List·Memᴰ, List·Memᴰ·head, List·Memᴰ·tail, List·Memᴰ·not-nil}
-use mathlib.Core.Logic.{_↔_}
-use Prim.Native.Nat.{ℕ, _<_}
-use native.Mathlib.Nat.{not-suc-le-zero}
+use mathlib.Core.Logic.{_↔_, ⊎-elim}
+use Prim.Native.Nat.{ℕ, zero, suc, _<_}
+use native.Mathlib.Nat.{not-suc-le-zero, eq-or-lt-of-le, le-of-suc-le-suc}
 use native.Mathlib.Omega.{arith}
 use borrow.Author.Tests.{ltb-true, ltb-false}
 use lib.Dec.{ltb}
+use Rattle.numbers.specs.Folds.{first, orElse}
 use Rattle.numbers.specs.Order.{Decides, Clear}
 use Rattle.numbers.specs.declared.Found.{Found}
 use Rattle.numbers.specs.declared.Found.the-variants.{At, Nothing}
@@ -24,6 +25,31 @@ pub data Finds (P : ℕ → Type 0) (o : Found) : Type 0 where
 pub finds-whole : (b : Bool) {A : Type 0} → Tells b A → Finds (λ i. (i ≡ 0) × A) (cond b (At 0) Nothing)
 finds-whole true t = here 0 refl (refl, t .yes refl) (λ j h x. not-suc-le-zero h)
 finds-whole false t = nowhere refl (λ j x. t .no refl (x .1))
+
+-- the same by a test that there is no fault
+pub finds-unless : (b : Bool) {A : Type 0} → Tells (not b) A → Finds (λ i. (i ≡ 0) × A) (cond b Nothing (At 0))
+finds-unless true t = nowhere refl (λ j x. t .no refl (x .1))
+finds-unless false t = here 0 refl (refl, t .yes refl) (λ j h x. not-suc-le-zero h)
+
+-- the search below n by a test
+module _ {A : ℕ → Type 0} (t : ℕ → Bool) (tells : (i : ℕ) → Tells (t i) (A i)) where
+  -- below n
+  abbrev Below : ℕ → ℕ → Type 0
+  Below n i = (i < n) × A i
+
+  more : (n : ℕ) (o : Found) → Finds (Below n) o → (b : Bool) → t n ≡ b → Finds (Below (suc n)) (orElse o (cond b (At n) Nothing))
+  more n o (here i e p f) b q =
+      here i (rw e) (omega (arith, p .0), p .1) (λ j h x. f j h (omega (arith, p .0), x .1))
+  more n o (nowhere e f) true q =
+      here n (rw e) (omega arith, tells n .yes q) (λ j h x. f j (h, x .1))
+  more n o (nowhere e f) false q =
+      nowhere (rw e)
+      (λ j x. ⊎-elim (λ (r : j ≡ n). tells n .no q (rw r at (x .1))) (λ (h : j < n). f j (h, x .1)) (eq-or-lt-of-le (le-of-suc-le-suc (x .0))))
+
+  pub first-finds : (n : ℕ) → Finds (Below n) (first t n)
+  unfolding first
+  first-finds zero = nowhere refl (λ j x. not-suc-le-zero (x .0))
+  first-finds (suc n) = more n (first t n) (first-finds n) (t n) refl
 
 never-both : {A : Type 0} {i : ℕ} {o : Found} → o ≡ At i → o ≡ Nothing → A
 never-both p q = absurd (let z : _≡_ {A = ℕ} 0 1 = (let w = sym p ∙ q in cc) in omega arith)

@@ -2,13 +2,14 @@
 use mathlib.Core.Path.{_≡_, refl, sym, _∙_}
 use mathlib.Core.Bool.{Bool, true, false, not, _||_, _&&_}
 use mathlib.Core.Logic.{_⊎_, inl, inr, ⊎-elim}
-use Prim.Native.Nat.{ℕ, _%_, _≤_, _<_, _∣_}
-use native.Mathlib.Nat.{dvd-iff-mod-eq-zero}
+use Prim.Native.Nat.{ℕ, zero, suc, _%_, _≤_, _<_, _∣_}
+use native.Mathlib.Nat.{dvd-iff-mod-eq-zero, not-suc-le-zero, eq-or-lt-of-le, le-of-suc-le-suc}
 use native.Mathlib.Omega.{arith}
 use lib.Dec.{leb, ltb, eqb}
 use lib.IntN.{ℤ}
 use lib.Signed.{ltZ, _<ℤ_}
 use borrow.Author.Tests.{ltb-true, ltb-false, leb-true, leb-false, eqb-true, eqb-false, not-true, not-false}
+use Rattle.numbers.specs.Folds.{some}
 
 -- b is true exactly where A holds
 pub record Tells (b : Bool) (A : Type 0) : Type 0 where
@@ -70,3 +71,14 @@ tells-less a b = by-test (ltZ a b) refl
   where
     by-test : (t : Bool) → ltZ a b ≡ t → Tells (ltZ a b) (a <ℤ b)
     by-test t e = record { yes = λ p. record { lt = rw p tt }; no = λ p h. rw p at (h .lt) }
+
+-- ---- an index below n
+
+pub tells-some : {P : ℕ → Type 0} (t : ℕ → Bool) (n : ℕ) → ((i : ℕ) → Tells (t i) (P i)) → Tells (some t n) ((j : ℕ) × (j < n) × P j)
+unfolding some
+tells-some t zero h = record { yes = λ e. not-both e refl; no = λ e x. not-suc-le-zero (x .1) }
+tells-some {P} t (suc n) h =
+    tells-as
+    (⊎-elim (λ x. (x .0, omega (arith, x .1), x .2)) (λ p. (n, omega arith, p)))
+    (λ x. ⊎-elim (λ (e : x .0 ≡ n). inr (rw e at (x .2))) (λ (l : x .0 < n). inl (x .0, l, x .2)) (eq-or-lt-of-le (le-of-suc-le-suc (x .1))))
+    (tells-or (some t n) (t n) (tells-some t n h) (h n))

@@ -1,0 +1,40 @@
+-- A section's records by index: what a reader of a record needs.
+use mathlib.Core.Path.{_≡_, refl, ap, _∙_}
+use mathlib.Core.List.{List, [], map}
+use Prim.Native.Nat.{ℕ, zero, suc, _+_, _*_, _/_, _≤_, _<_}
+use native.Mathlib.Nat.{mul-zero, not-suc-le-zero, le-of-suc-le-suc}
+use native.Mathlib.Omega.{arith}
+use lib.ListN.{length, getD, take, drop}
+use lib.Seq.{drop-drop}
+use Rattle.numbers.specs.Bytes.{part, records, recordsOf}
+
+module _ {R : Type 0} (f : List ℕ → R) (w : ℕ) where
+  length-map-records : (n : ℕ) (s : List ℕ) → length (map f (records w n s)) ≡ n
+  length-map-records zero s = refl
+  length-map-records (suc n) s = ap suc (length-map-records n (drop w s))
+
+  -- how many records a section has
+  pub size-is : (s : List ℕ) → length (map f (recordsOf w s)) ≡ length s / w
+  unfolding recordsOf
+  size-is s = length-map-records (length s / w) s
+
+  inside : (n : ℕ) (s : List ℕ) (j : ℕ) → j < n → getD (map f (records w n s)) j (f []) ≡ f (part (w * j) w s)
+  inside zero s j h = absurd (not-suc-le-zero h)
+  inside (suc n) s zero h = rw mul-zero
+  inside (suc n) s (suc j) h =
+      let q : w + w * j ≡ w * suc j = omega arith in
+      inside n (drop w s) j (le-of-suc-le-suc h) ∙ ap (λ t. f (take w t)) (drop-drop (w * j) w s ∙ ap (λ (o : ℕ). drop o s) q)
+
+  outside : (n : ℕ) (s : List ℕ) (j : ℕ) → n ≤ j → getD (map f (records w n s)) j (f []) ≡ f []
+  outside zero s j h = refl
+  outside (suc n) s zero h = absurd (not-suc-le-zero h)
+  outside (suc n) s (suc j) h = outside n (drop w s) j (le-of-suc-le-suc h)
+
+  -- the record that a reader takes from its place
+  pub record-here : (s : List ℕ) (j : ℕ) → j < length s / w → getD (map f (recordsOf w s)) j (f []) ≡ f (part (w * j) w s)
+  unfolding recordsOf
+  record-here s j h = inside (length s / w) s j h
+
+  pub record-past : (s : List ℕ) (j : ℕ) → length s / w ≤ j → getD (map f (recordsOf w s)) j (f []) ≡ f []
+  unfolding recordsOf
+  record-past s j h = outside (length s / w) s j h

@@ -1,0 +1,101 @@
+-- Checks 9 to 11 go by which corrections stand in the list, and not by their order or how often.
+use mathlib.Core.Path.{_≡_, refl, sym, ap, ap₂, _∙_}
+use mathlib.Core.Bool.{Bool, true, false, not, _&&_, _||_}
+use mathlib.Core.List.{List}
+use Prim.Native.Nat.{ℕ, _<_}
+use native.Mathlib.Omega.{arith}
+use lib.Dec.{eqb, ltb}
+use lib.ListN.{length}
+use borrow.Author.Tests.{eqb-true, eqb-false, eq-eqb, ne-eqb, ltb-true, ltb-false}
+use Rattle.numbers.specs.Folds.{first, some}
+use Rattle.settlement.specs.Records.{Lists, correctionAt, markAt}
+use Rattle.settlement.specs.Faults.{clashing, noMark, badPrice}
+use Rattle.settlement.specs.Checks.{ruleOf, findingOf, verdictOf}
+use Rattle.settlement.specs.Prices.{AllIn}
+use Rattle.settlement.specs.declared.records.Mark.{Mark}
+use Rattle.settlement.specs.declared.records.Correction.{Correction}
+use Rattle.settlement.specs.declared.records.Position.{Position}
+use Rattle.numbers.specs.declared.Found.the-variants.{Nothing}
+use Rattle.settlement.specs.declared.checks.Check.{Check}
+use Rattle.settlement.specs.declared.checks.Check.the-variants.{Code, Date, PriceLimit, Tick, MarkRepeated, CorrectionMark, CorrectionPrice, CorrectionClash, PositionMark, Lots}
+use Rattle.settlement.specs.declared.checks.Verdict.the-variants.{Passed}
+use Rattle.numbers.proofs.Searches.{first-clear, clear-first, some-clear, clear-some}
+use Rattle.settlement.proofs.Accepted.{clear, passes}
+
+abbrev pub listsWith : List Mark → List Position → List Correction → Lists
+listsWith ms ps cs = record { marks = ms; corrections = cs; positions = ps }
+
+-- ---- check 11: two records that clash
+
+eqb-comm : (m n : ℕ) → eqb m n ≡ eqb n m
+eqb-comm m n = go (eqb m n) refl
+  where
+    go : (b : Bool) → eqb m n ≡ b → eqb m n ≡ eqb n m
+    go true e = e ∙ sym (eq-eqb n m (sym (eqb-true m n e)))
+    go false e = e ∙ sym (ne-eqb n m (λ q. eqb-false m n e (sym q)))
+
+clash-comm : (a b : Correction) → clashing a b ≡ clashing b a
+clash-comm a b =
+    ap₂ (λ x y. x && y) (eqb-comm (a .number) (b .number))
+    (ap₂ (λ x y. not x || not y) (eqb-comm (a .mark) (b .mark)) (eqb-comm (a .price) (b .price)))
+
+clash-self : (a : Correction) → clashing a a ≡ false
+clash-self a = rw (eq-eqb (a .number) (a .number) refl, eq-eqb (a .mark) (a .mark) refl, eq-eqb (a .price) (a .price) refl)
+
+-- one number, one price
+pub one-price : (a b : Correction) → clashing a b ≡ false → a .number ≡ b .number → a .price ≡ b .price
+one-price a b e q = eqb-true (a .price) (b .price) (last (eqb (a .mark) (b .mark)) (eqb (a .price) (b .price)) (rw (eq-eqb (a .number) (b .number) q) at e))
+  where
+    last : (x y : Bool) → (not x || not y) ≡ false → y ≡ true
+    last true true h = refl
+    last true false h = sym h
+    last false true h = refl
+    last false false h = sym h
+
+abbrev pub Apart : List Correction → Type 0
+Apart cs = (i j : ℕ) → i < length cs → j < length cs → clashing (correctionAt cs i) (correctionAt cs j) ≡ false
+
+module _ (ms : List Mark) (ps : List Position) (cs : List Correction) (passed : verdictOf (listsWith ms ps cs) ≡ Passed) where
+  later : (i j : ℕ) → i < length cs → j < i → clashing (correctionAt cs i) (correctionAt cs j) ≡ false
+  later i j hi hj =
+      some-clear (λ k. clashing (correctionAt cs i) (correctionAt cs k)) i j
+      (first-clear (ruleOf (listsWith ms ps cs) CorrectionClash .test) (length cs) i (clear (listsWith ms ps cs) passed CorrectionClash) hi) hj
+
+  pub apart : Apart cs
+  apart i j hi hj = go (ltb j i) refl (ltb i j) refl
+    where
+      go : (a : Bool) → ltb j i ≡ a → (b : Bool) → ltb i j ≡ b → clashing (correctionAt cs i) (correctionAt cs j) ≡ false
+      go true p b q = later i j hi (ltb-true _ _ p)
+      go false p true q = clash-comm (correctionAt cs i) (correctionAt cs j) ∙ later j i hj (ltb-true _ _ q)
+      go false p false q =
+          let e : i ≡ j = omega (arith, ltb-false j i p, ltb-false i j q) in rw e (clash-self (correctionAt cs j))
+
+  -- the same corrections, in another order or more often: they pass too
+  pub still-passes : (ds : List Correction) → AllIn ds cs → verdictOf (listsWith ms ps ds) ≡ Passed
+  still-passes ds back = passes (listsWith ms ps ds) still
+    where
+      each : (t : Correction → Bool) → first (λ i. t (correctionAt cs i)) (length cs) ≡ Nothing → first (λ i. t (correctionAt ds i)) (length ds) ≡ Nothing
+      each t h =
+          clear-first (λ i. t (correctionAt ds i)) (length ds)
+          (λ j hj. let (i, hi, e) = back j hj in ap t (sym e) ∙ first-clear (λ i. t (correctionAt cs i)) (length cs) i h hi)
+
+      clashes : first (λ i. some (λ k. clashing (correctionAt ds i) (correctionAt ds k)) i) (length ds) ≡ Nothing
+      clashes =
+          clear-first (λ i. some (λ k. clashing (correctionAt ds i) (correctionAt ds k)) i) (length ds)
+          (λ i hi. clear-some (λ k. clashing (correctionAt ds i) (correctionAt ds k)) i
+          (λ k hk.
+          let (i′, hi′, e) = back i hi in
+          let (k′, hk′, f) = back k (omega arith) in
+          ap₂ clashing (sym e) (sym f) ∙ apart i′ k′ hi′ hk′))
+
+      still : (c : Check) → findingOf (listsWith ms ps ds) c ≡ Nothing
+      still Code = clear (listsWith ms ps cs) passed Code
+      still Date = clear (listsWith ms ps cs) passed Date
+      still PriceLimit = clear (listsWith ms ps cs) passed PriceLimit
+      still Tick = clear (listsWith ms ps cs) passed Tick
+      still MarkRepeated = clear (listsWith ms ps cs) passed MarkRepeated
+      still CorrectionMark = each (λ c. noMark ms (c .mark)) (clear (listsWith ms ps cs) passed CorrectionMark)
+      still CorrectionPrice = each (λ c. badPrice (markAt ms (c .mark)) c) (clear (listsWith ms ps cs) passed CorrectionPrice)
+      still CorrectionClash = clashes
+      still PositionMark = clear (listsWith ms ps cs) passed PositionMark
+      still Lots = clear (listsWith ms ps cs) passed Lots

@@ -1,0 +1,142 @@
+-- What is promised of a day file's settlement. Open this file first: each demand of document 01 is stated here in the terms of specs/, and its
+-- argument stands in the file it cites. `answerOf l f places` is the answer to the file f with a slice of so many places, and `amountsAfter l f a`
+-- the slice afterwards that was a before: the contract of `settle` says that its answer and its slice are these, for the limits `fileLimits`.
+use mathlib.Core.Path.{_≡_, refl, sym, _∙_}
+use mathlib.Core.List.{List}
+use mathlib.Core.Logic.{_↔_}
+use Prim.Native.Nat.{ℕ, _+_, _*_, _-_, _≤_, _<_}
+use lib.Dec.{eqb}
+use lib.IntN.{ℤ, pos, natAbs, _-ℤ_, _*ℤ_, +ℤ-invr, *ℤ-zero}
+use lib.Signed.{_≤ℤ_}
+use lib.ListN.{length, getD, take, drop}
+use Rattle.numbers.specs.Fractions.{_minus_, _times_, Within}
+use Rattle.pricing.specs.Calls.{given, valueOf}
+use Rattle.pricing.specs.Value.{exactOf}
+use Rattle.pricing.specs.Accuracy.{accuracyOf}
+use Rattle.pricing.specs.declared.products.Currency.the-variants.{Aud, Nzd}
+use Rattle.numbers.specs.Bytes.{u32At}
+use Rattle.numbers.specs.Folds.{sum, count, some}
+use Rattle.settlement.specs.Limits.{Limits, fileLimits}
+use Rattle.settlement.specs.Records.{Lists, correctionAt}
+use Rattle.settlement.specs.Layout.{listsOfFile}
+use Rattle.settlement.specs.Products.{currencyOf}
+use Rattle.settlement.specs.Checks.{verdictOf}
+use Rattle.settlement.specs.Conditions.{TurnedAway, NotTurnedAway}
+use Rattle.settlement.specs.Prices.{finalOf, FinalPrice, AllIn}
+use Rattle.settlement.specs.Settling.{keepOf, resentOf, positionIn, markIn, previousIn, finalIn, Answer, settled, refused, totals, answerOf, amountsAfter}
+use Rattle.settlement.specs.Resend.{SentAgain, correctionRecords, Resent}
+use Rattle.settlement.specs.declared.records.Mark.{Mark}
+use Rattle.settlement.specs.declared.records.Correction.{Correction}
+use Rattle.settlement.specs.declared.checks.Verdict.the-variants.{Passed}
+use Rattle.settlement.proofs.Wall as pricing
+use Rattle.settlement.proofs.Corrections as corrections
+use Rattle.numbers.proofs.Counting as counting
+use Rattle.settlement.proofs.FinalPrices as prices
+use Rattle.settlement.proofs.Values.{amount-valued}
+use Rattle.numbers.proofs.Signs.{difference-is, keeps-above, keeps-below}
+use Rattle.settlement.proofs.Slices as slices
+use Rattle.settlement.proofs.Refusals.{refused-exactly, accepted-exactly}
+use Rattle.settlement.proofs.Resending as resending
+use Rattle.settlement.proofs.ResentMade as made
+
+-- ---- the first demand: what becomes of the slice
+
+-- a refusal leaves the slice as it was; an acceptance, of a slice with at least N places, leaves its length and the places from N on
+abbrev pub Leaves : Answer → List ℤ → List ℤ → Type 0
+Leaves (refused k i) before after = after ≡ before
+Leaves (settled n aud nzd resent) before after = (n ≤ length before) × (length after ≡ length before) × (drop n after ≡ drop n before)
+
+pub demand-1 : (l : Limits) (f : List ℕ) (a : List ℤ) → Leaves (answerOf l f (length a)) a (amountsAfter l f a)
+demand-1 l f a = by-answer (answerOf l f (length a)) refl
+  where
+    by-answer : (x : Answer) → answerOf l f (length a) ≡ x → Leaves x a (amountsAfter l f a)
+    by-answer (refused k i) e = slices.refusal-leaves l f a e
+    by-answer (settled n aud nzd resent) e = (slices.has-room l f a e, slices.length-kept l f a e, slices.rest-kept l f a e)
+
+-- ---- the second demand: the answer
+
+-- The answer is a refusal with number k at record i exactly where check k's condition holds at i, at no record before it, and no earlier check's
+-- condition holds at any record.
+pub demand-2 : (l : Limits) (f : List ℕ) (places : ℕ) {k i : ℕ} → (answerOf l f places ≡ refused k i) ↔ TurnedAway l f places k i
+demand-2 l f places = refused-exactly l f places
+
+-- The file is accepted, with the number of its positions, both totals and the resent count, exactly where no condition holds at any record.
+pub demand-2-accepted : (l : Limits) (f : List ℕ) (places : ℕ) → (answerOf l f places ≡ totals (listsOfFile f)) ↔ NotTurnedAway l f places
+demand-2-accepted l f places = accepted-exactly l f places
+
+-- ---- the third demand
+
+-- For position i of a file that is accepted: `amount` is what stands in place i of the slice.
+module _ (l : Limits) (f : List ℕ) (a : List ℤ) {n k : ℕ} {aud nzd : ℤ} (e : answerOf l f (length a) ≡ settled n aud nzd k) (i : ℕ) (h : i < n) where
+  abbrev pub amount : ℤ
+  amount = getD (amountsAfter l f a) i (pos 0)
+
+  -- Both settlement prices have a value, and the amount is lots times (value at the final price − value at the previous price).
+  pub amount-by-values : (v : ℕ) × (w : ℕ) × (valueOf (markIn f i .code) (previousIn f i) ≡ given v) × (valueOf (markIn f i .code) (finalIn f i) ≡ given w)
+      × (amount ≡ positionIn f i .lots *ℤ (pos w -ℤ pos v))
+  amount-by-values =
+      let (v, w, p, q, r) = amount-valued (listsOfFile f) (slices.accepted l f a e .passed) i (rw (slices.counted l f a e) h) in
+      (v, w, p, q, slices.amount-stands l f a e i h ∙ r)
+
+  -- 1,000 times the amount lies within the product's figure times the lots without their sign of 1,000 times lots times the difference of the
+  -- exact values.
+  pub demand-3-accuracy :
+      Within (pos 1000 *ℤ amount) (pos 1000 times positionIn f i .lots times (exactOf (markIn f i .code) (finalIn f i) minus exactOf (markIn f i .code) (previousIn f i)))
+      (accuracyOf (markIn f i .code) (previousIn f i) (finalIn f i) * natAbs (positionIn f i .lots))
+  demand-3-accuracy =
+      let (v, w, p, q, r) = amount-by-values in
+      rw r (pricing.accurate (markIn f i .code) (previousIn f i) (finalIn f i) p q (positionIn f i .lots))
+
+  -- After a rise the amount is at least 0 for positive lots and at most 0 for negative ones.
+  pub demand-3-rise : previousIn f i ≤ finalIn f i → (pos 0 ≤ℤ positionIn f i .lots → pos 0 ≤ℤ amount) × (positionIn f i .lots ≤ℤ pos 0 → amount ≤ℤ pos 0)
+  demand-3-rise up =
+      let (v, w, p, q, r) = amount-by-values in
+      rw (r, difference-is v w (pricing.worth-rises (markIn f i .code) up p q)) (keeps-above (positionIn f i .lots) (w - v), keeps-below (positionIn f i .lots) (w - v))
+
+  -- With equal prices it is 0.
+  pub demand-3-no-change : previousIn f i ≡ finalIn f i → amount ≡ pos 0
+  demand-3-no-change equal =
+      let (v, w, p, q, r) = amount-by-values in
+      let same : v ≡ w = cc in
+      r ∙ rw (same, +ℤ-invr (pos w), *ℤ-zero (positionIn f i .lots))
+
+-- The file g, which is f with copies of its corrections sent again and is brought into line, is accepted too: N and both totals are those of f,
+-- each amount is the one in the same place for f, and the resent count is that of f plus the copies.
+pub demand-3-resend : (l : Limits) (f g : List ℕ) (copies n k : ℕ) (aud nzd : ℤ) (a b : List ℤ) → Resent f g copies → u32At g 8 ≤ l .corrections → n ≤ length b
+    → answerOf l f (length a) ≡ settled n aud nzd k
+    → (answerOf l g (length b) ≡ settled n aud nzd (k + copies)) × (take n (amountsAfter l g b) ≡ take n (amountsAfter l f a))
+demand-3-resend l f g copies n k aud nzd a b = resending.resend l f g copies n k aud nzd a b
+
+-- There is such a file for every list of corrections sent again within the limit, so the claim is not an empty one.
+pub resent-exists : (f : List ℕ) (ds : List (List ℕ)) (copies n k : ℕ) (aud nzd : ℤ) (a : List ℤ) → answerOf fileLimits f (length a) ≡ settled n aud nzd k
+    → SentAgain (correctionRecords f) (correctionRecords f) ds copies → length ds ≤ fileLimits .corrections
+    → (g : List ℕ) × Resent f g copies × (correctionRecords g ≡ ds) × (u32At g 8 ≤ fileLimits .corrections)
+resent-exists f ds copies n k aud nzd a = made.resent-exists f ds copies n k aud nzd a
+
+-- ---- totals, final prices and the resent count
+
+-- The total of a currency is the sum of the amounts of its positions, as they stand in the slice.
+pub totals-are-sums : (l : Limits) (f : List ℕ) (a : List ℤ) {n k : ℕ} {aud nzd : ℤ} → answerOf l f (length a) ≡ settled n aud nzd k
+    → (aud ≡ sum (λ i. keepOf Aud (currencyOf (markIn f i .code)) (getD (amountsAfter l f a) i (pos 0))) n)
+    × (nzd ≡ sum (λ i. keepOf Nzd (currencyOf (markIn f i .code)) (getD (amountsAfter l f a) i (pos 0))) n)
+totals-are-sums l f a e = (slices.total-stands l f a e Aud, slices.total-stands l f a e Nzd)
+
+-- The final price is the one that document 01 describes.
+pub final-price-is : (ms : List Mark) (cs : List Correction) (m : ℕ) → FinalPrice ms cs m (finalOf ms cs m)
+final-price-is ms cs m = prices.final-price-is ms cs m
+
+-- Among three lists that pass it is the only such price.
+pub one-final-price : (ls : Lists) → verdictOf ls ≡ Passed → (m p : ℕ) → FinalPrice (ls .marks) (ls .corrections) m p → p ≡ finalOf (ls .marks) (ls .corrections) m
+one-final-price ls passed m p d =
+    prices.one-final (ls .marks) (ls .corrections) (corrections.apart (ls .marks) (ls .positions) (ls .corrections) passed) m d (prices.final-price-is (ls .marks) (ls .corrections) m)
+
+-- It depends only on which corrections occur, and not on their order or number.
+pub same-corrections-same-prices : (ls : Lists) → verdictOf ls ≡ Passed → (ds : List Correction) → AllIn (ls .corrections) ds → AllIn ds (ls .corrections)
+    → finalOf (ls .marks) ds ≡ finalOf (ls .marks) (ls .corrections)
+same-corrections-same-prices ls passed ds to back =
+    sym (prices.same-finals (ls .marks) (ls .corrections) ds to back (corrections.apart (ls .marks) (ls .positions) (ls .corrections) passed))
+
+-- The resent count and the number of different numbers, which are all below top, make up the length of the list.
+pub resent-and-different : (cs : List Correction) (top : ℕ) → ((i : ℕ) → i < length cs → correctionAt cs i .number < top)
+    → count (λ v. some (λ i. eqb v (correctionAt cs i .number)) (length cs)) top + resentOf cs ≡ length cs
+resent-and-different cs top below = counting.different-and-repeated (λ i. correctionAt cs i .number) top (length cs) below

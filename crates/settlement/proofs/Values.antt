@@ -1,0 +1,95 @@
+-- In an accepted file each mark has a value at its previous and at its final price, and an amount is lots times their difference.
+use mathlib.Core.Path.{_≡_, ap}
+use mathlib.Core.Bool.{true, false}
+use Prim.Native.Nat.{ℕ, _%_, _≤_, _<_}
+use lib.IntN.{pos, _-ℤ_, _*ℤ_}
+use lib.ListN.{length}
+use borrow.Author.Tests.{ltb-false, eqb-true, not-false}
+use Rattle.pricing.specs.Prices.{priceLimit}
+use Rattle.pricing.specs.Calls.{given, valueOf}
+use Rattle.settlement.specs.Records.{Lists, markAt, correctionAt, positionAt}
+use Rattle.settlement.specs.Products.{aboveLimit, listed, tickOf}
+use Rattle.settlement.specs.Faults.{offTick}
+use Rattle.settlement.specs.Checks.{ruleOf, verdictOf}
+use Rattle.settlement.specs.Prices.{finalOf, changeOf, FinalPrice, corrected, uncorrected}
+use Rattle.settlement.specs.Settling.{amountOf, changeIn}
+use Rattle.settlement.specs.declared.records.Mark.{Mark}
+use Rattle.settlement.specs.declared.checks.Check.{Check}
+use Rattle.settlement.specs.declared.checks.Check.the-variants.{Code, PriceLimit, Tick, CorrectionPrice}
+use Rattle.settlement.specs.declared.checks.Verdict.the-variants.{Passed}
+use Rattle.numbers.proofs.Searches.{first-clear, or-none}
+use Rattle.settlement.proofs.Accepted.{clear, mark-in}
+use Rattle.settlement.proofs.FinalPrices.{final-price-is}
+use Rattle.settlement.proofs.Wall.{valued, worth-is}
+
+-- a price that passes 6 and 7 for a mark
+record Allowed (m : Mark) (p : ℕ) : Type 0 where
+  low : p ≤ priceLimit
+  on-tick : p % tickOf (m .code) ≡ 0
+
+allowed : (m : Mark) (p : ℕ) → aboveLimit p ≡ false → offTick m p ≡ false → Allowed m p
+allowed m p a b = record { low = ltb-false priceLimit p a; on-tick = eqb-true _ 0 (not-false _ b) }
+
+allowed-as : (m : Mark) {p q : ℕ} → p ≡ q → Allowed m p → Allowed m q
+allowed-as m e a = rw e at a
+
+module _ (l : Lists) (passed : verdictOf l ≡ Passed) where
+  -- a test that no record fails
+  passes : (c : Check) (i : ℕ) → i < ruleOf l c .size → ruleOf l c .test i ≡ false
+  passes c i h = first-clear (ruleOf l c .test) (ruleOf l c .size) i (clear l passed c) h
+
+  module _ (m : ℕ) (h : m < length (l .marks)) where
+    code-listed : listed (markAt (l .marks) m .code) ≡ true
+    code-listed = not-false _ (passes Code m h)
+
+    low-both : (aboveLimit (markAt (l .marks) m .previous) ≡ false) × (aboveLimit (markAt (l .marks) m .today) ≡ false)
+    low-both = or-none _ _ (passes PriceLimit m h)
+
+    on-both : (offTick (markAt (l .marks) m) (markAt (l .marks) m .previous) ≡ false) × (offTick (markAt (l .marks) m) (markAt (l .marks) m .today) ≡ false)
+    on-both = or-none _ _ (passes Tick m h)
+
+    previous-allowed : Allowed (markAt (l .marks) m) (markAt (l .marks) m .previous)
+    previous-allowed = allowed _ _ (low-both .0) (on-both .0)
+
+    today-allowed : Allowed (markAt (l .marks) m) (markAt (l .marks) m .today)
+    today-allowed = allowed _ _ (low-both .1) (on-both .1)
+
+    final-allowed : Allowed (markAt (l .marks) m) (finalOf (l .marks) (l .corrections) m)
+    final-allowed = by-price (final-price-is (l .marks) (l .corrections) m)
+      where
+        by-price : {p : ℕ} → FinalPrice (l .marks) (l .corrections) m p → Allowed (markAt (l .marks) m) p
+        by-price (uncorrected none e) = allowed-as (markAt (l .marks) m) e today-allowed
+        by-price (corrected k hk named e max) =
+            let c = correctionAt (l .corrections) k in
+            let n = markAt (l .marks) (c .mark) in
+            let q = or-none (aboveLimit (c .price)) (offTick n (c .price)) (passes CorrectionPrice k hk) in
+            rw named at (allowed-as n e (allowed n (c .price) (q .0) (q .1)))
+
+    -- the value at a price that is allowed
+    has-value : (p : ℕ) → Allowed (markAt (l .marks) m) p → (n : ℕ) × (valueOf (markAt (l .marks) m .code) p ≡ given n)
+    has-value p a = valued (markAt (l .marks) m .code) p code-listed (a .low) (a .on-tick)
+
+    previous-value : (n : ℕ) × (valueOf (markAt (l .marks) m .code) (markAt (l .marks) m .previous) ≡ given n)
+    previous-value = has-value _ previous-allowed
+
+    final-value : (n : ℕ) × (valueOf (markAt (l .marks) m .code) (finalOf (l .marks) (l .corrections) m) ≡ given n)
+    final-value = has-value _ final-allowed
+
+    change-is : {v w : ℕ} → valueOf (markAt (l .marks) m .code) (markAt (l .marks) m .previous) ≡ given v
+        → valueOf (markAt (l .marks) m .code) (finalOf (l .marks) (l .corrections) m) ≡ given w → changeIn l m ≡ pos w -ℤ pos v
+    unfolding changeOf
+    change-is x y = rw (worth-is _ _ x, worth-is _ _ y)
+
+  -- lots times (value at the final price − value at the previous price)
+  pub amount-valued : (i : ℕ) → i < length (l .positions)
+      → let p = positionAt (l .positions) i in
+      let m = markAt (l .marks) (p .mark) in
+      (v : ℕ) × (w : ℕ) × (valueOf (m .code) (m .previous) ≡ given v) × (valueOf (m .code) (finalOf (l .marks) (l .corrections) (p .mark)) ≡ given w)
+      × (amountOf (l .positions) (changeIn l) i ≡ p .lots *ℤ (pos w -ℤ pos v))
+  unfolding amountOf
+  amount-valued i h =
+      let p = positionAt (l .positions) i in
+      let k = mark-in l passed i h in
+      let (v, x) = previous-value (p .mark) k in
+      let (w, y) = final-value (p .mark) k in
+      (v, w, x, y, ap (λ z. p .lots *ℤ z) (change-is (p .mark) k x y))

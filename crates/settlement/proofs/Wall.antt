@@ -1,0 +1,86 @@
+-- What settlement knows of the pricing part: laws that it exports.
+use mathlib.Core.Path.{_≡_, refl, sym, _∙_}
+use Prim.Native.Nat.{ℕ, _*_, _%_, _≤_, _<_}
+use native.Mathlib.Omega.{arith}
+use Rattle.pricing.specs.Calls.{Answer, given, refused, said, valueOf}
+use Rattle.pricing.specs.Products.{find}
+use Rattle.pricing.specs.declared.products.Found.{Found}
+use Rattle.pricing.specs.declared.products.Found.the-variants.{At, Missing}
+use Rattle.pricing.specs.declared.products.Product.{Product}
+use Rattle.pricing.specs.declared.contract.Priced.{Priced}
+use Rattle.pricing.specs.declared.products.Code.{Code}
+use Rattle.pricing.proofs.Promises as pricing
+use mathlib.Core.Bool.{true, not}
+use lib.IntN.{ℤ, pos, natAbs, _-ℤ_, _*ℤ_}
+use Rattle.numbers.specs.Fractions.{_minus_, _times_, Within}
+use Rattle.pricing.specs.Prices.{priceLimit}
+use Rattle.pricing.specs.Value.{exactOf}
+use Rattle.pricing.specs.Accuracy.{accuracyOf}
+use Rattle.settlement.specs.Steps.{valueCap}
+use Rattle.settlement.specs.Products.{orZero, worthOf, listed, listedIn, quoted, quotedIn, tickOf, tickIn}
+use Rattle.settlement.specs.Conditions.{Quoted}
+use Rattle.numbers.proofs.Truth.{Tells, not-both}
+
+by-answer : (a : Code) (p : ℕ) (x : Answer) → valueOf a p ≡ x → orZero x ≤ valueCap
+by-answer a p (given n) e = pricing.value-cap a p e
+by-answer a p (refused k) e = omega arith
+
+pub worth-bound : (a : Code) (p : ℕ) → worthOf a p ≤ valueCap
+unfolding worthOf
+worth-bound a p = by-answer a p (valueOf a p) refl
+
+-- a definition that goes by what the table has, from what a lookup found
+pub by-lookup : {R : Type 0} (f : Found → R) (a : Code) {o q : Found} {r : R} → o ≡ find a → o ≡ q → r ≡ f q → r ≡ f (find a)
+by-lookup f a e g h = rw (← e, g) h
+
+pub tick-positive : (a : Code) {o : Found} {q : Product} → o ≡ find a → o ≡ At q → 0 < q .tick
+tick-positive a e g = pricing.tick-positive a (sym e ∙ g)
+
+-- the same for the value of one contract
+pub by-value : (a : Code) (p : ℕ) {x y : Priced} {n : ℕ} → said x ≡ valueOf a p → x ≡ y → n ≡ orZero (said y) → (n ≡ worthOf a p) × (n ≤ valueCap)
+unfolding worthOf
+by-value a p {n = n} e g h =
+    let q : n ≡ orZero (valueOf a p) = rw (← e, g) h in
+    (q, rw q (by-answer a p (valueOf a p) refl))
+
+-- what the tests of the product table tell
+missing-by : (o : Found) → Tells (not (listedIn o)) (o ≡ Missing)
+missing-by (At q) = record { yes = λ e. not-both e refl; no = λ e p. (let z : _≡_ {A = ℕ} 0 1 = cc in omega arith) }
+missing-by Missing = record { yes = λ e. refl; no = λ e. not-both refl e }
+
+pub tells-missing : (a : Code) → Tells (not (listed a)) (find a ≡ Missing)
+unfolding listed
+tells-missing a = missing-by (find a)
+
+quoted-by : (a : Code) (m : ℕ) (o : Found) → find a ≡ o → Tells (quotedIn o m) (Quoted a m)
+quoted-by a m (At q) e =
+    record {
+      yes = λ h. (q, e, h);
+      no = λ h x. (let r : x .0 ≡ q = (let f = x .1 in cc) in not-both (x .2) (rw (← r) at h));
+    }
+quoted-by a m Missing e =
+    record { yes = λ h. not-both h refl; no = λ h x. (let z : _≡_ {A = ℕ} 0 1 = (let f = x .1 in cc) in omega arith) }
+
+pub tells-quoted : (a : Code) (m : ℕ) → Tells (quoted a m) (Quoted a m)
+unfolding quoted
+tells-quoted a m = quoted-by a m (find a) refl
+
+-- a price that is allowed for a product has a value
+pub valued : (a : Code) (p : ℕ) → listed a ≡ true → p ≤ priceLimit → p % tickOf a ≡ 0 → (n : ℕ) × (valueOf a p ≡ given n)
+unfolding listed tickOf
+valued a p h low on = by-found (find a) refl h on
+  where
+    by-found : (o : Found) → find a ≡ o → listedIn o ≡ true → p % tickIn o ≡ 0 → (n : ℕ) × (valueOf a p ≡ given n)
+    by-found (At q) e h on = (_, pricing.value-given a e low on)
+    by-found Missing e h on = not-both h refl
+
+pub worth-is : (a : Code) (p : ℕ) {n : ℕ} → valueOf a p ≡ given n → worthOf a p ≡ n
+unfolding worthOf
+worth-is a p e = rw e
+
+pub worth-rises : (a : Code) {p q m n : ℕ} → p ≤ q → valueOf a p ≡ given m → valueOf a q ≡ given n → m ≤ n
+worth-rises a h e f = pricing.value-rises a h e f
+
+pub accurate : (a : Code) (previous final : ℕ) {m n : ℕ} → valueOf a previous ≡ given m → valueOf a final ≡ given n → (lots : ℤ)
+    → Within (pos 1000 *ℤ (lots *ℤ (pos n -ℤ pos m))) (pos 1000 times lots times (exactOf a final minus exactOf a previous)) (accuracyOf a previous final * natAbs lots)
+accurate a previous final e f lots = pricing.accurate a previous final e f lots

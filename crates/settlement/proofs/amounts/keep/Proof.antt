@@ -1,0 +1,31 @@
+use Rattle.numbers.proofs.Signed.{back}
+use borrow.Author.Needs.{needs}
+use Rattle.settlement.proofs.amounts.keep.Statement.{statement}
+use Rattle.settlement.proofs.amounts.keep.Tie as tie
+
+returns : tie.Need-returns
+returns c = rw (back _ (c .before .before .before .before .fits .x .sfits), c .before .before .enum-told .given .1, c .enum-told2 .given .1)
+
+returns-2 : tie.Need-returns-2
+returns-2 c = rw (c .before .before .enum-told .given .1, c .enum-told3 .given .1)
+
+returns-3 : tie.Need-returns-3
+returns-3 c = rw (c .before .before .enum-told4 .given .1, c .enum-told5 .given .1)
+
+returns-4 : tie.Need-returns-4
+returns-4 c = rw (back _ (c .before .before .before .before .fits .x .sfits), c .before .before .enum-told4 .given .1, c .enum-told6 .given .1)
+
+pub keep-spec : {M : Type 1} → statement M
+keep-spec =
+    tie.close
+    (tie.spec
+    (λ c. search needs)
+    (λ c. search needs)
+    (λ c. search needs)
+    (λ c. search needs)
+    (λ c. search needs)
+    (λ c. search needs)
+    returns
+    returns-2
+    returns-3
+    returns-4)

@@ -1,0 +1,62 @@
+use Rattle.settlement.specs.Records.{marksIn, correctionsIn}
+use Rattle.settlement.specs.Prices.{finalOf}
+use Rattle.settlement.proofs.Changes.{bounded-as}
+use mathlib.Core.Path.{_∙_}
+use Rattle.pricing.specs.declared.products.Currency.the-variants.{Aud, Nzd}
+use Rattle.numbers.proofs.Signed.{back}
+use Rattle.settlement.proofs.Accepted.{payable}
+use Rattle.settlement.proofs.Plans.{settled-by}
+use Rattle.settlement.proofs.Totals.{sum-is, paid-is}
+use borrow.Author.Needs.{needs}
+use Rattle.settlement.proofs.settling.settle_accepted.Statement.{statement}
+use Rattle.settlement.proofs.settling.settle_accepted.Tie as tie
+
+changes-requires : tie.Need-changes-requires
+changes-requires c κs =
+    c .before .before .before .pre .0 .small .marks
+
+pay-requires : tie.Need-pay-requires
+pay-requires c κs =
+    let s = c .before .before .before .before .before .before in
+    let bound = bounded-as (marksIn (s .args .marks .now)) (finalOf (marksIn (s .args .marks .now)) (correctionsIn (s .args .corrections .now))) (c .before .before .changes .ensures) in
+    ((payable _ (s .pre .0), bound), s .pre .1)
+
+total-requires : tie.Need-total-requires
+total-requires c κs =
+    let s = c .before .before .before .before .before .before .before .before .before in
+    let bound = bounded-as (marksIn (s .args .marks .now)) (finalOf (marksIn (s .args .marks .now)) (correctionsIn (s .args .corrections .now))) (c .before .before .before .before .before .changes .ensures) in
+    (payable _ (s .pre .0), bound)
+
+total-requires-2 : tie.Need-total-requires-2
+total-requires-2 c κs =
+    let s = c .before .before .before .before .before .before .before .before .before .before .before in
+    let bound = bounded-as (marksIn (s .args .marks .now)) (finalOf (marksIn (s .args .marks .now)) (correctionsIn (s .args .corrections .now))) (c .before .before .before .before .before .before .before .changes .ensures) in
+    (payable _ (s .pre .0), bound)
+
+same-length : tie.Need-same-length
+same-length c =
+    search needs
+
+returns : tie.Need-returns
+returns c =
+    let acc = c .before .before .before .before .before .before .before .before .before .before .before .before .before .before .pre .0 in
+    let q = c .before .before .before .before .before .before .before .before .before .before .changes .ensures in
+    let x = c .before .before .before .before in
+    let y = c .before .before in
+    record {
+      answer = settled-by (c .before .position-count .ensures) (back (x .total .result) (x .total .ok) ∙ x .total .ensures ∙ rw q (sum-is _ acc Aud)) (back (y .total2 .result) (y .total2 .ok) ∙ y .total2 .ensures ∙ rw q (sum-is _ acc Nzd)) (c .resent-count .ensures);
+      written = c .before .before .before .before .before .before .before .pay .ensures ∙ rw q (paid-is _ acc _);
+    }
+
+pub settle-accepted-spec : {M : Type 1} → statement M
+settle-accepted-spec =
+    tie.close
+    (tie.spec
+    changes-requires
+    pay-requires
+    total-requires
+    total-requires-2
+    (λ c κs. search needs)
+    (λ c κs. search needs)
+    same-length
+    returns)

@@ -1,0 +1,56 @@
+-- The final price of a mark, and its change in value.
+use mathlib.Core.Path.{_≡_}
+use mathlib.Core.Logic.{_≢_}
+use Prim.Native.Nat.{ℕ, zero, suc, _≤_, _<_}
+use mathlib.Core.Bool.{cond}
+use mathlib.Core.List.{List}
+use lib.Dec.{leb, eqb}
+use lib.IntN.{ℤ, pos, _-ℤ_}
+use lib.ListN.{length}
+use Rattle.settlement.specs.Products.{worthOf}
+use Rattle.settlement.specs.Records.{markAt, correctionAt}
+use Rattle.settlement.specs.declared.records.Mark.{Mark}
+use Rattle.settlement.specs.declared.records.Correction.{Correction}
+use Rattle.settlement.specs.declared.prices.Latest.{Latest}
+use Rattle.settlement.specs.declared.prices.Latest.the-variants.{Never, Price}
+
+-- of two corrections the one with the higher number, the later one where they are equal
+abbrev pub newerOf : Latest → Correction → Latest
+newerOf Never c = Price (c .number) (c .price)
+newerOf (Price n p) c = cond (leb n (c .number)) (Price (c .number) (c .price)) (Price n p)
+
+-- after a correction, which may be of another mark
+abbrev pub afterOf : ℕ → Latest → Correction → Latest
+afterOf m l c = cond (eqb (c .mark) m) (newerOf l c) l
+
+-- the highest-numbered one of the first n corrections that names the mark m
+unfoldable pub latestOf : List Correction → ℕ → ℕ → Latest
+latestOf cs m zero = Never
+latestOf cs m (suc n) = afterOf m (latestOf cs m n) (correctionAt cs n)
+
+abbrev pub orToday : Latest → ℕ → ℕ
+orToday Never p = p
+orToday (Price n q) p = q
+
+-- the final price of the mark m
+unfoldable pub finalOf : List Mark → List Correction → ℕ → ℕ
+finalOf ms cs m = orToday (latestOf cs m (length cs)) (markAt ms m .today)
+
+-- the same in document 01's words: the price of a correction that names the mark and bears the highest number of those that do,
+-- and today's price where none names it
+pub data FinalPrice (ms : List Mark) (cs : List Correction) (m p : ℕ) : Type 0 where
+  corrected : (k : ℕ) → k < length cs → correctionAt cs k .mark ≡ m → correctionAt cs k .price ≡ p
+      → ((j : ℕ) → j < length cs → correctionAt cs j .mark ≡ m → correctionAt cs j .number ≤ correctionAt cs k .number) → FinalPrice ms cs m p
+  uncorrected : ((k : ℕ) → k < length cs → correctionAt cs k .mark ≢ m) → markAt ms m .today ≡ p → FinalPrice ms cs m p
+
+-- each correction of cs stands in ds
+abbrev pub AllIn : List Correction → List Correction → Type 0
+AllIn cs ds = (i : ℕ) → i < length cs → (j : ℕ) × (j < length ds) × (correctionAt ds j ≡ correctionAt cs i)
+
+-- the value of one contract of a mark
+abbrev pub valueAt : Mark → ℕ → ℕ
+valueAt m p = worthOf (m .code) p
+
+-- the value of a mark at the final price less the value at the previous price
+unfoldable pub changeOf : List Mark → (ℕ → ℕ) → ℕ → ℤ
+changeOf ms final m = pos (valueAt (markAt ms m) (final m)) -ℤ pos (valueAt (markAt ms m) (markAt ms m .previous))

@@ -1,0 +1,129 @@
+-- The settlement of a day file.
+use Prim.Native.Nat.{ℕ}
+use mathlib.Core.Bool.{cond}
+use mathlib.Core.List.{List}
+use lib.Dec.{eqb, ltb}
+use lib.IntN.{ℤ, pos, _*ℤ_}
+use lib.ListN.{length}
+use Rattle.pricing.specs.declared.products.Currency.{Currency}
+use Rattle.pricing.specs.declared.products.Currency.the-variants.{Aud, Nzd}
+use Rattle.settlement.specs.Products.{currencyOf}
+use Rattle.numbers.specs.Folds.{front, count, sum}
+use Rattle.settlement.specs.Limits.{Limits}
+use Rattle.settlement.specs.Records.{Lists, markAt, positionAt}
+use Rattle.settlement.specs.Checks.{numberPair, repeating, verdictOf, numberOf}
+use Rattle.settlement.specs.Layout.{openedOf, listsIn, listsOfFile}
+use Rattle.settlement.specs.Prices.{finalOf, changeOf}
+use Rattle.settlement.specs.declared.records.Mark.{Mark}
+use Rattle.settlement.specs.declared.records.Correction.{Correction}
+use Rattle.settlement.specs.declared.records.Position.{Position}
+use Rattle.settlement.specs.declared.file.Opened.{Opened}
+use Rattle.settlement.specs.declared.file.Opened.the-variants as opened
+use Rattle.settlement.specs.declared.checks.Verdict.{Verdict}
+use Rattle.settlement.specs.declared.checks.Verdict.the-variants.{Passed, Failed}
+use Rattle.settlement.specs.declared.settling.Settlement.{Settlement}
+use Rattle.settlement.specs.declared.settling.Settlement.the-variants.{Settled, Refused}
+
+-- x where a currency is the wanted one, else 0
+abbrev pub keepOf : Currency → Currency → ℤ → ℤ
+keepOf Aud Aud x = x
+keepOf Aud Nzd x = pos 0
+keepOf Nzd Aud x = pos 0
+keepOf Nzd Nzd x = x
+
+-- lots times the change in value of the position's mark; `change` gives each mark's change
+unfoldable pub amountOf : List Position → (ℕ → ℤ) → ℕ → ℤ
+amountOf ps change i = positionAt ps i .lots *ℤ change (positionAt ps i .mark)
+
+-- the net lots of a mark
+abbrev pub netOf : List Position → ℕ → ℤ
+netOf ps m = sum (λ i. cond (eqb (positionAt ps i .mark) m) (positionAt ps i .lots) (pos 0)) (length ps)
+
+module _ (ms : List Mark) (ps : List Position) (change : ℕ → ℤ) where
+  -- a position's amount, if its currency is the wanted one
+  unfoldable pub shareOf : Currency → ℕ → ℤ
+  shareOf wanted i = keepOf wanted (currencyOf (markAt ms (positionAt ps i .mark) .code)) (amountOf ps change i)
+
+  -- the sum of a currency's amounts
+  abbrev pub sumOfAmounts : Currency → ℤ
+  sumOfAmounts wanted = sum (shareOf wanted) (length ps)
+
+  -- a currency's total: the sum over its marks of net lots times the change in value
+  unfoldable pub totalOf : Currency → ℤ
+  totalOf wanted = sum (λ m. keepOf wanted (currencyOf (markAt ms m .code)) (netOf ps m *ℤ change m)) (length ms)
+
+-- each mark's change, of three lists
+abbrev pub changeIn : Lists → ℕ → ℤ
+changeIn l = changeOf (l .marks) (finalOf (l .marks) (l .corrections))
+
+-- a position of a file, its mark, and its two settlement prices
+abbrev pub positionIn : List ℕ → ℕ → Position
+positionIn f i = positionAt (listsOfFile f .positions) i
+
+abbrev pub markIn : List ℕ → ℕ → Mark
+markIn f i = markAt (listsOfFile f .marks) (positionIn f i .mark)
+
+abbrev pub previousIn : List ℕ → ℕ → ℕ
+previousIn f i = markIn f i .previous
+
+abbrev pub finalIn : List ℕ → ℕ → ℕ
+finalIn f i = finalOf (listsOfFile f .marks) (listsOfFile f .corrections) (positionIn f i .mark)
+
+-- how many corrections bear a number that an earlier one bears
+abbrev pub resentOf : List Correction → ℕ
+resentOf cs = count (repeating (numberPair cs)) (length cs)
+
+-- the answer of a settlement: the count, the totals in Australian and New Zealand cents, the resent count; or a check's number and a record's index
+pub data Answer : Type 0 where
+  settled : ℕ → ℤ → ℤ → ℕ → Answer
+  refused : ℕ → ℕ → Answer
+
+-- what an answer of the code says
+abbrev pub said : Settlement → Answer
+said (Settled n aud nzd k) = settled n (aud .0) (nzd .0) k
+said (Refused k i) = refused k i
+
+-- the amounts of three lists that pass, in the first places of the slice
+abbrev pub paid : Lists → List ℤ → List ℤ
+paid l a = front (amountOf (l .positions) (changeIn l)) a (length (l .positions))
+
+abbrev pub totals : Lists → Answer
+totals l = settled (length (l .positions)) (totalOf (l .marks) (l .positions) (changeIn l) Aud) (totalOf (l .marks) (l .positions) (changeIn l) Nzd) (resentOf (l .corrections))
+
+-- check 14, after the checks over the records
+pub data Plan : Type 0 where
+  accept : Lists → Plan
+  refuse : ℕ → ℕ → Plan
+
+abbrev pub roomPlan : Lists → ℕ → Plan
+roomPlan l places = cond (ltb places (length (l .positions))) (refuse 14 0) (accept l)
+
+abbrev pub listsPlan : Lists → Verdict → ℕ → Plan
+listsPlan l (Failed c i) places = refuse (numberOf c) i
+listsPlan l Passed places = roomPlan l places
+
+abbrev pub planFor : Lists → ℕ → Plan
+planFor l places = listsPlan l (verdictOf l) places
+
+abbrev pub openedPlan : List ℕ → Opened → ℕ → Plan
+openedPlan s (opened.Refused k) places = refuse k 0
+openedPlan s (opened.File d) places = planFor (listsIn s d) places
+
+-- what is to be done with a file, for a slice of so many places
+unfoldable pub planOf : Limits → List ℕ → ℕ → Plan
+planOf l s places = openedPlan s (openedOf l s) places
+
+abbrev pub answerBy : Plan → Answer
+answerBy (refuse k i) = refused k i
+answerBy (accept l) = totals l
+
+abbrev pub paidBy : Plan → List ℤ → List ℤ
+paidBy (refuse k i) a = a
+paidBy (accept l) a = paid l a
+
+-- the answer to a file, and the slice after it
+unfoldable pub answerOf : Limits → List ℕ → ℕ → Answer
+answerOf l s places = answerBy (planOf l s places)
+
+unfoldable pub amountsAfter : Limits → List ℕ → List ℤ → List ℤ
+amountsAfter l s a = paidBy (planOf l s (length a)) a

@@ -1,0 +1,181 @@
+// The checks over the three lists of records.
+use crate::faults::bad_code;
+use crate::faults::bad_date;
+use crate::faults::bad_lots;
+use crate::faults::clash;
+use crate::faults::correction_off;
+use crate::faults::high_mark;
+use crate::faults::no_mark;
+use crate::faults::off_mark;
+use crate::faults::same_contract;
+use crate::faults::same_number;
+use crate::records::correction_at;
+use crate::records::correction_count;
+use crate::records::mark_at;
+use crate::records::mark_count;
+use crate::records::position_at;
+use crate::records::position_count;
+use numbers::Found;
+ghost use mathlib.Core.Path.{_≡_};
+ghost use Rattle.settlement.specs.Records.{listsOf};
+ghost use Rattle.settlement.specs.Checks.{pairing, repeating, ruleOf, findingOf, numberOf, failedAt, thenCheck, verdictOf};
+
+// The checks over the records of a section, in their order.
+pub enum Check {
+    Code,
+    Date,
+    PriceLimit,
+    Tick,
+    MarkRepeated,
+    CorrectionMark,
+    CorrectionPrice,
+    CorrectionClash,
+    PositionMark,
+    Lots,
+}
+
+// What a record may share with an earlier one of its section.
+pub enum Pair {
+    // two marks of one contract
+    Contract,
+    // two corrections with one number that differ in mark or price
+    Clash,
+    // two corrections with one number
+    Number,
+}
+
+// Whether records i and k of a section are such a pair.
+fn paired(section: &[u8], p: Pair, i: usize, k: usize) -> bool
+    ensures { λ r. ⌜ r ≡ pairing (now (section .entry)) p i k ⌝ }
+{
+    match p {
+        Pair::Contract => same_contract(mark_at(section, i), mark_at(section, k)),
+        Pair::Clash => clash(correction_at(section, i), correction_at(section, k)),
+        Pair::Number => same_number(correction_at(section, i), correction_at(section, k)),
+    }
+}
+
+// Whether record i of a section makes such a pair with an earlier one.
+pub(crate) fn repeats(section: &[u8], p: Pair, i: usize) -> bool
+    ensures { λ r. ⌜ r ≡ repeating (pairing (now (section .entry)) p) i ⌝ }
+{
+    let mut k = 0;
+    while k < i {
+        if paired(section, p, i, k) {
+            return true;
+        }
+        k += 1;
+    }
+    false
+}
+
+// Whether the record with index i fails a check.
+fn fails(marks: &[u8], corrections: &[u8], positions: &[u8], c: Check, i: usize) -> bool
+    ensures { λ r. ⌜ r ≡ ruleOf (listsOf (now (marks .entry)) (now (corrections .entry)) (now (positions .entry))) c .test i ⌝ }
+{
+    match c {
+        Check::Code => bad_code(mark_at(marks, i)),
+        Check::Date => bad_date(mark_at(marks, i)),
+        Check::PriceLimit => high_mark(mark_at(marks, i)),
+        Check::Tick => off_mark(mark_at(marks, i)),
+        Check::MarkRepeated => repeats(marks, Pair::Contract, i),
+        Check::CorrectionMark => no_mark(marks, correction_at(corrections, i).mark),
+        Check::CorrectionPrice => correction_off(marks, correction_at(corrections, i)),
+        Check::CorrectionClash => repeats(corrections, Pair::Clash, i),
+        Check::PositionMark => no_mark(marks, position_at(positions, i).mark),
+        Check::Lots => bad_lots(position_at(positions, i)),
+    }
+}
+
+// How many records a check looks at.
+fn size(marks: &[u8], corrections: &[u8], positions: &[u8], c: Check) -> usize
+    ensures { λ r. ⌜ r ≡ ruleOf (listsOf (now (marks .entry)) (now (corrections .entry)) (now (positions .entry))) c .size ⌝ }
+{
+    match c {
+        Check::Code => mark_count(marks),
+        Check::Date => mark_count(marks),
+        Check::PriceLimit => mark_count(marks),
+        Check::Tick => mark_count(marks),
+        Check::MarkRepeated => mark_count(marks),
+        Check::CorrectionMark => correction_count(corrections),
+        Check::CorrectionPrice => correction_count(corrections),
+        Check::CorrectionClash => correction_count(corrections),
+        Check::PositionMark => position_count(positions),
+        Check::Lots => position_count(positions),
+    }
+}
+
+// The first record that fails a check.
+fn first_failing(marks: &[u8], corrections: &[u8], positions: &[u8], c: Check) -> Found
+    ensures { λ r. ⌜ r ≡ findingOf (listsOf (now (marks .entry)) (now (corrections .entry)) (now (positions .entry))) c ⌝ }
+{
+    let n = size(marks, corrections, positions, c);
+    let mut i = 0;
+    while i < n {
+        if fails(marks, corrections, positions, c, i) {
+            return Found::At(i);
+        }
+        i += 1;
+    }
+    Found::Nothing
+}
+
+// What the checks so far say.
+pub enum Verdict {
+    Passed,
+    Failed(Check, usize),
+}
+
+// What a check's search says.
+fn failed_at(c: Check, f: Found) -> Verdict
+    ensures { λ r. ⌜ r ≡ failedAt c f ⌝ }
+{
+    match f {
+        Found::At(i) => Verdict::Failed(c, i),
+        Found::Nothing => Verdict::Passed,
+    }
+}
+
+// One check more, where none has failed yet.
+fn then_check(marks: &[u8], corrections: &[u8], positions: &[u8], v: Verdict, c: Check) -> Verdict
+    ensures { λ r. ⌜ r ≡ thenCheck (listsOf (now (marks .entry)) (now (corrections .entry)) (now (positions .entry))) v c ⌝ }
+{
+    match v {
+        Verdict::Failed(_, _) => v,
+        Verdict::Passed => failed_at(c, first_failing(marks, corrections, positions, c)),
+    }
+}
+
+// All checks over the records, in their order.
+pub(crate) fn checked(marks: &[u8], corrections: &[u8], positions: &[u8]) -> Verdict
+    ensures { λ r. ⌜ r ≡ verdictOf (listsOf (now (marks .entry)) (now (corrections .entry)) (now (positions .entry))) ⌝ }
+{
+    let v = then_check(marks, corrections, positions, Verdict::Passed, Check::Code);
+    let v = then_check(marks, corrections, positions, v, Check::Date);
+    let v = then_check(marks, corrections, positions, v, Check::PriceLimit);
+    let v = then_check(marks, corrections, positions, v, Check::Tick);
+    let v = then_check(marks, corrections, positions, v, Check::MarkRepeated);
+    let v = then_check(marks, corrections, positions, v, Check::CorrectionMark);
+    let v = then_check(marks, corrections, positions, v, Check::CorrectionPrice);
+    let v = then_check(marks, corrections, positions, v, Check::CorrectionClash);
+    let v = then_check(marks, corrections, positions, v, Check::PositionMark);
+    then_check(marks, corrections, positions, v, Check::Lots)
+}
+
+// Document 01's number of a check.
+pub(crate) fn number(c: Check) -> u32
+    ensures { λ r. ⌜ r ≡ numberOf c ⌝ }
+{
+    match c {
+        Check::Code => 4,
+        Check::Date => 5,
+        Check::PriceLimit => 6,
+        Check::Tick => 7,
+        Check::MarkRepeated => 8,
+        Check::CorrectionMark => 9,
+        Check::CorrectionPrice => 10,
+        Check::CorrectionClash => 11,
+        Check::PositionMark => 12,
+        Check::Lots => 13,
+    }
+}

@@ -1,0 +1,72 @@
+// What settlement takes from the pricing part: the product table and the value of one contract.
+use pricing::Code;
+use pricing::Currency;
+use pricing::Found;
+use pricing::PRICE_LIMIT;
+use pricing::Priced;
+use pricing::has_month;
+use pricing::lookup;
+ghost use mathlib.Core.Path.{_≡_};
+ghost use Prim.Native.Nat.{_<_, _≤_};
+ghost use Rattle.settlement.specs.Products.{aboveLimit, listed, quoted, tickOf, currencyOf, worthOf};
+ghost use Rattle.settlement.specs.Steps.{valueCap};
+
+// Whether a price is above the highest one.
+pub(crate) fn above_limit(p: u32) -> bool
+    ensures { λ r. ⌜ r ≡ aboveLimit p ⌝ }
+{
+    p > PRICE_LIMIT
+}
+
+// Whether the product table has a code.
+pub(crate) fn is_listed(code: Code) -> bool
+    ensures { λ r. ⌜ r ≡ listed code ⌝ }
+{
+    match lookup(code) {
+        Found::At(_) => true,
+        Found::Missing => false,
+    }
+}
+
+// Whether a month is one of the product's.
+pub(crate) fn is_quoted(code: Code, month: u8) -> bool
+    ensures { λ r. ⌜ r ≡ quoted code month ⌝ }
+{
+    match lookup(code) {
+        Found::At(q) => has_month(q, month),
+        Found::Missing => false,
+    }
+}
+
+// A product's tick, 1 where there is no product.
+pub(crate) fn tick(code: Code) -> u32
+    ensures { λ r. ⌜ (r ≡ tickOf code) × (0 < r) ⌝ }
+{
+    match lookup(code) {
+        Found::At(q) => q.tick,
+        Found::Missing => 1,
+    }
+}
+
+// A product's currency, Australian where there is no product.
+pub(crate) fn currency_of(code: Code) -> Currency
+    ensures { λ r. ⌜ r ≡ currencyOf code ⌝ }
+{
+    match lookup(code) {
+        Found::At(q) => {
+            let c = q.currency;
+            c
+        }
+        Found::Missing => Currency::Aud,
+    }
+}
+
+// The value of one contract, 0 where the call is refused.
+pub(crate) fn value(code: Code, p: u32) -> u64
+    ensures { λ r. ⌜ (r ≡ worthOf code p) × (r ≤ valueCap) ⌝ }
+{
+    match pricing::value(code, p) {
+        Priced::Given(n) => n,
+        Priced::Refused(_) => 0,
+    }
+}
