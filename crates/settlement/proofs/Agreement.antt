@@ -2,7 +2,7 @@
 use mathlib.Core.Path.{_≡_, refl, ap, ap₂}
 use mathlib.Core.Bool.{not, _||_, _&&_}
 use mathlib.Core.Logic.{_⊎_, inl, inr, ⊎-elim}
-use Prim.Native.Nat.{ℕ, _%_, _<_}
+use Prim.Native.Nat.{ℕ, _<_}
 use native.Mathlib.Omega.{arith}
 use lib.Dec.{ltb, eqb}
 use lib.IntN.{ℤ, pos, negsuc, negℤ}
@@ -12,7 +12,7 @@ use Rattle.pricing.specs.Prices.{priceLimit}
 use Rattle.pricing.specs.declared.products.Code.{Code}
 use Rattle.settlement.specs.Limits.{yearLimit, lotsLimit}
 use Rattle.settlement.specs.Records.{Lists, markAt, correctionAt, positionAt}
-use Rattle.settlement.specs.Products.{aboveLimit, quoted, tickOf}
+use Rattle.settlement.specs.Products.{aboveLimit, quoted}
 use Rattle.numbers.specs.Integers.{isZero}
 use Rattle.settlement.specs.Faults.{offTick, sameContract, clashing}
 use Rattle.settlement.specs.Checks.{ruleOf, contractPair, clashPair}
@@ -21,14 +21,15 @@ use Rattle.settlement.specs.declared.records.Mark.{Mark}
 use Rattle.settlement.specs.declared.records.Correction.{Correction}
 use Rattle.settlement.specs.declared.checks.Check.{Check}
 use Rattle.settlement.specs.declared.checks.Check.the-variants as check
-use Rattle.numbers.proofs.Truth.{Tells, not-both, tells-as, tells-or, tells-and, tells-not, tells-lt, tells-le, tells-eq, tells-divides, tells-less, tells-some}
-use Rattle.settlement.proofs.Wall.{tells-missing, tells-quoted}
+use Rattle.numbers.proofs.Truth.{Tells, not-both, tells-as, tells-or, tells-and, tells-not, tells-lt, tells-le, tells-eq, tells-less}
+use Rattle.numbers.proofs.Truth.{tells-some}
+use Rattle.settlement.proofs.Wall.{tells-missing, tells-quoted, tells-off-tick}
 
 above : (p : ℕ) → Tells (aboveLimit p) (priceLimit < p)
 above p = tells-lt priceLimit p
 
 off-tick : (m : Mark) (p : ℕ) → Tells (offTick m p) (OffTick m p)
-off-tick m p = tells-not (eqb (p % tickOf (m .code)) 0) (tells-divides (tickOf (m .code)) p)
+off-tick m p = tells-off-tick (m .code) p
 
 code-by : (a b : Code) → a .0 ≡ b .0 → a .1 ≡ b .1 → a ≡ b
 code-by a b p q = ap₂ {C = Code} (λ (x y : ℕ). (x, y)) p q

@@ -1,6 +1,6 @@
 -- What settlement knows of the pricing part: laws that it exports.
 use mathlib.Core.Path.{_≡_, refl, sym, _∙_}
-use Prim.Native.Nat.{ℕ, _*_, _%_, _≤_, _<_}
+use Prim.Native.Nat.{ℕ, _*_, _%_, _≤_, _<_, _∣_}
 use native.Mathlib.Omega.{arith}
 use Rattle.pricing.specs.Calls.{Answer, given, refused, said, valueOf}
 use Rattle.pricing.specs.Products.{find}
@@ -10,6 +10,10 @@ use Rattle.pricing.specs.declared.products.Product.{Product}
 use Rattle.pricing.specs.declared.contract.Priced.{Priced}
 use Rattle.pricing.specs.declared.products.Code.{Code}
 use Rattle.pricing.proofs.Promises as pricing
+use Rattle.pricing.proofs.Table.{found-code, found-member, missing-none}
+use Rattle.pricing.specs.Conditions.{Unlisted}
+use native.Mathlib.Nat.{mod-one}
+use lib.Dec.{eqb}
 use mathlib.Core.Bool.{true, not}
 use lib.IntN.{ℤ, pos, natAbs, _-ℤ_, _*ℤ_}
 use Rattle.numbers.specs.Fractions.{_minus_, _times_, Within}
@@ -19,7 +23,7 @@ use Rattle.pricing.specs.Accuracy.{accuracyOf}
 use Rattle.settlement.specs.Steps.{valueCap}
 use Rattle.settlement.specs.Products.{orZero, worthOf, listed, listedIn, quoted, quotedIn, tickOf, tickIn}
 use Rattle.settlement.specs.Conditions.{Quoted}
-use Rattle.numbers.proofs.Truth.{Tells, not-both}
+use Rattle.numbers.proofs.Truth.{Tells, not-both, tells-as, tells-not, tells-divides}
 
 by-answer : (a : Code) (p : ℕ) (x : Answer) → valueOf a p ≡ x → orZero x ≤ valueCap
 by-answer a p (given n) e = pricing.value-cap a p e
@@ -44,13 +48,27 @@ by-value a p {n = n} e g h =
     (q, rw q (by-answer a p (valueOf a p) refl))
 
 -- what the tests of the product table tell
-missing-by : (o : Found) → Tells (not (listedIn o)) (o ≡ Missing)
-missing-by (At q) = record { yes = λ e. not-both e refl; no = λ e p. (let z : _≡_ {A = ℕ} 0 1 = cc in omega arith) }
-missing-by Missing = record { yes = λ e. refl; no = λ e. not-both refl e }
+missing-by : (a : Code) (o : Found) → find a ≡ o → Tells (not (listedIn o)) (Unlisted a)
+missing-by a (At q) e = record { yes = λ b. not-both b refl; no = λ b h. h q (found-member a e) (found-code a e) }
+missing-by a Missing e = record { yes = λ b. missing-none a e; no = λ b. not-both refl b }
 
-pub tells-missing : (a : Code) → Tells (not (listed a)) (find a ≡ Missing)
+pub tells-missing : (a : Code) → Tells (not (listed a)) (Unlisted a)
 unfolding listed
-tells-missing a = missing-by (find a)
+tells-missing a = missing-by a (find a) refl
+
+off-tick-by : (a : Code) (p : ℕ) (o : Found) → find a ≡ o → Tells (not (eqb (p % tickIn o) 0)) ((q : Product) × (find a ≡ At q) × ¬ (q .tick ∣ p))
+off-tick-by a p (At q) e =
+    tells-as (λ n. (q, e, n)) (λ x. (let same : x .0 ≡ q = (let f = x .1 in cc) in rw same at (x .2)))
+    (tells-not (eqb (p % q .tick) 0) (tells-divides (q .tick) p))
+off-tick-by a p Missing e =
+    record {
+      yes = λ b. not-both b (rw (mod-one p));
+      no = λ b x. (let z : _≡_ {A = ℕ} 0 1 = (let f = x .1 in cc) in omega arith);
+    }
+
+pub tells-off-tick : (a : Code) (p : ℕ) → Tells (not (eqb (p % tickOf a) 0)) ((q : Product) × (find a ≡ At q) × ¬ (q .tick ∣ p))
+unfolding tickOf
+tells-off-tick a p = off-tick-by a p (find a) refl
 
 quoted-by : (a : Code) (m : ℕ) (o : Found) → find a ≡ o → Tells (quotedIn o m) (Quoted a m)
 quoted-by a m (At q) e =

@@ -10,14 +10,14 @@ use lib.ListN.{length}
 use Rattle.numbers.specs.Order.{Decides, Clear}
 use Rattle.pricing.specs.Prices.{priceLimit}
 use Rattle.pricing.specs.Products.{find, hasMonth}
+use Rattle.pricing.specs.Conditions.{Unlisted}
 use Rattle.pricing.specs.declared.products.Code.{Code}
 use Rattle.pricing.specs.declared.products.Product.{Product}
-use Rattle.pricing.specs.declared.products.Found.the-variants.{At, Missing}
+use Rattle.pricing.specs.declared.products.Found.the-variants.{At}
 use Rattle.numbers.specs.Bytes.{u32At}
 use Rattle.settlement.specs.Limits.{Limits, yearLimit, lotsLimit}
 use Rattle.settlement.specs.Records.{Lists, markAt, correctionAt, positionAt}
 use Rattle.settlement.specs.Layout.{headerSize, countsOf, correctionsStart, positionsStart, lengthOf, listsOfFile}
-use Rattle.settlement.specs.Products.{tickOf}
 use Rattle.settlement.specs.Checks.{ruleOf, numberOf, order}
 use Rattle.settlement.specs.declared.records.Mark.{Mark}
 use Rattle.settlement.specs.declared.records.Correction.{Correction}
@@ -32,7 +32,7 @@ Quoted code month = (q : Product) × (find code ≡ At q) × (hasMonth q month �
 
 -- a price breaks 7 for a mark
 abbrev pub OffTick : Mark → ℕ → Type 0
-OffTick m p = ¬ (tickOf (m .code) ∣ p)
+OffTick m p = (q : Product) × (find (m .code) ≡ At q) × ¬ (q .tick ∣ p)
 
 -- two marks agree in code, month and year
 abbrev pub SameContract : Mark → Mark → Type 0
@@ -46,7 +46,7 @@ Clash c d = (c .number ≡ d .number) × ((c .mark ≢ d .mark) ⊎ (c .price �
 
 abbrev pub Wrong : Lists → Check → ℕ → Type 0
 -- 4: a mark's code is not in the product table
-Wrong l check.Code i = find (markAt (l .marks) i .code) ≡ Missing
+Wrong l check.Code i = Unlisted (markAt (l .marks) i .code)
 -- 5: a mark's month is not one of its product's months, or its year is above 99
 Wrong l check.Date i = let m = markAt (l .marks) i in ¬ (Quoted (m .code) (m .month)) ⊎ (yearLimit < m .year)
 -- 6: a mark's price is above 1,000,000
