@@ -49,7 +49,7 @@ pub(crate) fn tick(code: Code) -> u32
 }
 
 // A product's currency, Australian where there is no product.
-pub(crate) fn currency_of(code: Code) -> Currency
+pub fn currency_of(code: Code) -> Currency
     ensures { λ r. ⌜ r ≡ currencyOf code ⌝ }
 {
     match lookup(code) {
