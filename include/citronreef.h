@@ -1,5 +1,6 @@
 /*
- * Citronreef: value, tick value and bracket of one ASX 24 rate futures contract, and the settlement of a day file.
+ * Citronreef: value, tick value and bracket of one ASX 24 rate futures contract, the settlement of a day file,
+ * and its sheet.
  *
  * Link with libffi.a, which `rt staticlib ffi` writes to target/staticlib. No function keeps what it is lent, allocates or
  * reads anything but its arguments. Every argument is answered: a call that cannot be met is refused with a check's number.
@@ -44,6 +45,16 @@ citronreef_quote citronreef_bracket(uint8_t first, uint8_t second, uint32_t pric
  * N on, and all places after a refusal, are left as they were. Neither pointer may be null, and the two do not overlap.
  */
 citronreef_outcome citronreef_settle(const uint8_t *file, size_t file_length, int64_t *amounts, size_t places);
+
+/* The longest sheet in bytes: 47 for each of 4,096 positions, and 90 for the totals and the resent count. */
+#define CITRONREEF_SHEET_SIZE 192602
+
+/*
+ * Settles a day file as citronreef_settle does, writes its sheet at the start of out, and answers the sheet's length; the
+ * other bytes of out stay. With room for less than CITRONREEF_SHEET_SIZE bytes nothing is written, neither sheet nor
+ * amounts, and the answer is 0. No pointer may be null, and no two of the three parts overlap.
+ */
+size_t citronreef_sheet(const uint8_t *file, size_t file_length, int64_t *amounts, size_t places, uint8_t *out, size_t room);
 
 #ifdef __cplusplus
 }

@@ -1,13 +1,17 @@
 //! Times the proved library against the same job in Rust: plain pair loops, and hash tables with nothing quadratic.
 //!
-//!   cargo run --release --example bench
+//!   rt check sheet && rt staticlib ffi && cd rust && cargo build --release --examples && cargo run --release --example bench
 
 use citronreef::days::day_of;
 use citronreef::products::{self, PRICE_LIMIT, PRODUCTS};
 use citronreef::random::Random;
 use citronreef::records::{Day, MAX_CORRECTIONS, MAX_MARKS, MAX_POSITIONS};
-use citronreef::{hashed, plain, settle, value, Refusal, Settled};
+use citronreef::sheet::sheet;
+use citronreef::{hashed, plain, settle, value, write_sheet, Refusal, Settled, SHEET_SIZE};
 use std::hint::black_box;
+use std::io::Write;
+use std::path::Path;
+use std::process::{Command, Stdio};
 use std::time::Instant;
 
 const RUNS: usize = 301;
@@ -98,6 +102,54 @@ fn print_values() {
     }
 }
 
+/// The times of the sheet of a day in microseconds: proved, and in plain Rust.
+fn sheet_times(day: &Day) -> [f64; 2] {
+    let file = day.bytes();
+    let mut amounts = vec![0; MAX_POSITIONS];
+    let mut out = vec![0; SHEET_SIZE];
+    let nanoseconds = medians(|k| {
+        let length = match k {
+            0 => write_sheet(black_box(&file), &mut amounts, &mut out),
+            _ => sheet(black_box(&file), &mut amounts).len(),
+        };
+        assert!(black_box(length) > 0);
+    });
+    nanoseconds.map(|time| time / 1_000.0)
+}
+
+/// Runs a program on a file once, and waits until it has printed.
+fn run(program: &Path, file: &[u8]) {
+    let mut child = Command::new(program)
+        .stdin(Stdio::piped())
+        .stdout(Stdio::null())
+        .spawn()
+        .unwrap_or_else(|error| panic!("{}: {error}", program.display()));
+    child.stdin.take().expect("a pipe").write_all(file).expect("the program reads its input");
+    assert!(child.wait().expect("the program ends").success());
+}
+
+/// The times of both sheet programs as processes, in microseconds: proved, and in plain Rust.
+fn process_times(day: &Day) -> [f64; 2] {
+    let root = Path::new(env!("CARGO_MANIFEST_DIR")).parent().expect("the crate stands in the repository");
+    let programs = [root.join("target/bin/sheet"), root.join("target/rust/release/examples/sheet")];
+    let file = day.bytes();
+    medians(|k| run(&programs[k], &file)).map(|time| time / 1_000.0)
+}
+
+fn print_sheets() {
+    println!("sheet: {MAX_MARKS} marks, {MAX_CORRECTIONS} corrections, N positions; microseconds for the text, and for the whole program");
+    println!("{:>21} {:>9} {:>9} {:>9} {:>9} {:>9} {:>9}", "N", "proved", "plain", "ratio", "program", "plain", "ratio");
+    let mut random = Random::new(362_436_069);
+    for positions in [256, 1_024, 4_096] {
+        let day = with_distinct_numbers(day_of(&mut random, MAX_MARKS, MAX_CORRECTIONS, positions));
+        let [proved, plain] = sheet_times(&day);
+        let [program, plain_program] = process_times(&day);
+        let (to_plain, to_program) = (proved / plain, program / plain_program);
+        println!("{positions:>21} {proved:>9.1} {plain:>9.1} {to_plain:>9.2} {program:>9.1} {plain_program:>9.1} {to_program:>9.2}");
+    }
+    println!();
+}
+
 fn main() {
     println!(
         "Each time is the median of {RUNS} runs in one process, in a release build (opt-level 3); the builds take turns."
@@ -107,5 +159,6 @@ fn main() {
         "Numbers of corrections are distinct, so that pair loops look at every pair, except where the row says other.\n"
     );
     print_settle();
+    print_sheets();
     print_values();
 }

@@ -1,5 +1,5 @@
-//! Safe functions over the proved library: the value, tick value and bracket of one contract, and the settlement of a day
-//! file. The answers are those of the build description, document 01.
+//! Safe functions over the proved library: the value, tick value and bracket of one contract, the settlement of a day file,
+//! and its sheet. The answers are those of the build description, document 01.
 //!
 //! The other modules are for the tests and the benchmark, and use nothing of the library: `products`, `plain` and `hashed` are
 //! independent builds of the same job, `sheet` prints the answer, `exact` has the exact values, and `days` makes day files.
@@ -40,4 +40,15 @@ pub fn bracket(code: [u8; 2], price: u32) -> Result<u64, Refusal> {
 pub fn settle(file: &[u8], amounts: &mut [i64]) -> Result<Settled, Refusal> {
     // SAFETY: each pointer comes with the length of its slice, and the slices cannot overlap.
     unsafe { sys::citronreef_settle(file.as_ptr(), file.len(), amounts.as_mut_ptr(), amounts.len()) }.answer()
+}
+
+/// The longest sheet, in bytes.
+pub const SHEET_SIZE: usize = 47 * records::MAX_POSITIONS + 90;
+
+/// Settles a day file as `settle` does, writes its sheet at the start of `out`, and answers the sheet's length; the other bytes
+/// of `out` stay. With room for less than `SHEET_SIZE` bytes nothing is written, neither sheet nor amounts, and the answer is 0.
+pub fn write_sheet(file: &[u8], amounts: &mut [i64], out: &mut [u8]) -> usize {
+    let (places, room) = (amounts.len(), out.len());
+    // SAFETY: as in `settle`.
+    unsafe { sys::citronreef_sheet(file.as_ptr(), file.len(), amounts.as_mut_ptr(), places, out.as_mut_ptr(), room) }
 }

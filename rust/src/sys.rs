@@ -23,6 +23,14 @@ extern "C" {
     pub fn citronreef_tick_value(first: u8, second: u8, price: u32) -> Quote;
     pub fn citronreef_bracket(first: u8, second: u8, price: u32) -> Quote;
     pub fn citronreef_settle(file: *const u8, file_length: usize, amounts: *mut i64, places: usize) -> Outcome;
+    pub fn citronreef_sheet(
+        file: *const u8,
+        file_length: usize,
+        amounts: *mut i64,
+        places: usize,
+        out: *mut u8,
+        room: usize,
+    ) -> usize;
 }
 
 impl Quote {

@@ -2,9 +2,11 @@
 ghost use mathlib.Core.Path.{_≡_};
 ghost use lib.ListN.{length};
 ghost use Rattle.pricing.specs.Calls.{said, valueOf, tickValueOf, bracketOf};
+ghost use Rattle.report.specs.Sheet.{sheetWithin, amountsWithin};
 ghost use Rattle.settlement.specs.Limits.{fileLimits};
 ghost use Rattle.settlement.specs.Settling.{answerOf, amountsAfter};
 ghost use Rattle.settlement.specs.Settling.{said as saidOfDay};
+ghost use Rattle.text.specs.Writing.{Wrote};
 ghost use Rattle.ffi.specs.Numbers.{quoteOf, outcomeOf};
 use pricing::Code;
 use pricing::Priced;
@@ -100,4 +102,14 @@ pub extern "C" fn citronreef_settle(file: &[u8], amounts: &mut [i64]) -> Outcome
     ensures written { λ r. ⌜ now (amounts .exit) ≡ amountsAfter fileLimits (now (file .entry)) (now (amounts .entry)) ⌝ }
 {
     day_numbers(settlement::settle(file, amounts))
+}
+
+// Settles a day file into the lent amounts, writes its sheet at the start of `out`, and answers the sheet's length. With less room than the
+// longest sheet takes nothing is written, and the answer is 0.
+#[no_mangle]
+pub extern "C" fn citronreef_sheet(file: &[u8], amounts: &mut [i64], out: &mut [u8]) -> usize
+    ensures sheet { λ r. ⌜ Wrote (sheetWithin (length (now (out .entry))) (now (file .entry)) (length (now (amounts .entry)))) r (now (out .entry)) (now (out .exit)) ⌝ }
+    ensures amounts { λ r. ⌜ now (amounts .exit) ≡ amountsWithin (length (now (out .entry))) (now (file .entry)) (now (amounts .entry)) ⌝ }
+{
+    report::sheet(file, amounts, out)
 }
