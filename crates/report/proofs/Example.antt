@@ -37,11 +37,7 @@ printed =
     ++ ascii "total NZD 0\n"
     ++ ascii "resent 1\n"
 
-pub case-prints : sheetOf file 4096 ≡ printed
+-- with room for its amounts, and settled into a slice of one place
+pub case-prints : (sheetOf file 4096 ≡ printed) × (sheetOf file 1 ≡ ascii "refused 14 at 0\n")
 unfolding file printed nearest par priceLimit yieldAt products sameCode findIn find hasMonth billDividend billDivisor valueBy judged valueOf u32At signed recordsOf first some markAt correctionAt positionAt listed quoted tickOf currencyOf worthOf verdictOf countsOf openedOf latestOf finalOf changeOf amountOf totalOf planOf answerOf u32Bytes texts digitsWithin decimal signedDecimal lettersOf positionLine totalLine resentLine refusalLine answerText positionsText sheetOf
-case-prints = refl
-
--- settled into a slice of one place, it is refused
-pub short-prints : sheetOf file 1 ≡ ascii "refused 14 at 0\n"
-unfolding file nearest par priceLimit yieldAt products sameCode findIn find hasMonth billDividend billDivisor valueBy judged valueOf u32At signed recordsOf first some markAt correctionAt positionAt listed quoted tickOf currencyOf worthOf verdictOf countsOf openedOf latestOf finalOf changeOf amountOf totalOf planOf answerOf u32Bytes texts digitsWithin decimal signedDecimal lettersOf positionLine totalLine resentLine refusalLine answerText positionsText sheetOf
-short-prints = refl
+case-prints = (refl, refl)

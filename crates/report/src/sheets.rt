@@ -17,8 +17,14 @@ use settlement::Settlement;
 use settlement::open_file;
 use settlement::settle;
 
-// The longest sheet, in bytes: 47 for each position and 90 for the totals and the resent count.
-pub const SHEET_SIZE: usize = 47 * DayFile::MAX_POSITIONS + 90;
+// The longest line of a position, in bytes.
+const LINE_SIZE: usize = 47;
+
+// The longest answer: two totals and the resent count.
+const ANSWER_SIZE: usize = 90;
+
+// The longest sheet.
+pub const SHEET_SIZE: usize = LINE_SIZE * DayFile::MAX_POSITIONS + ANSWER_SIZE;
 
 // How many positions were settled.
 fn count(answer: Settlement) -> usize

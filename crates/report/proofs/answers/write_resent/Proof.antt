@@ -1,5 +1,4 @@
 use Rattle.report.specs.Lines.{resentLine}
-use Rattle.text.specs.Ascii.{ascii}
 use Rattle.text.proofs.Writing.{fitted-writes, writes-then}
 use borrow.Author.Needs.{needs}
 use Rattle.report.proofs.answers.write_resent.Statement.{statement}
@@ -7,7 +6,7 @@ use Rattle.report.proofs.answers.write_resent.Tie as tie
 
 returns : tie.Need-returns
 unfolding resentLine
-returns c = writes-then (fitted-writes (ascii "resent ") (c .before .before .before .before .before .before .write-text .ensures)) (c .before .before .write-number .ensures)
+returns c = writes-then (fitted-writes _ (c .before .before .before .before .before .before .write-text .ensures)) (c .before .before .write-number .ensures)
 
 pub write-resent-spec : {M : Type 1} → statement M
 write-resent-spec =
