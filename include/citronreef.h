@@ -46,7 +46,7 @@ citronreef_quote citronreef_bracket(uint8_t first, uint8_t second, uint32_t pric
  */
 citronreef_outcome citronreef_settle(const uint8_t *file, size_t file_length, int64_t *amounts, size_t places);
 
-/* The longest sheet in bytes: 47 for each of 4,096 positions, and 90 for the totals and the resent count. */
+/* No sheet is longer than this, in bytes: 47 for each of 4,096 positions, and 90 for the totals and the resent count. */
 #define CITRONREEF_SHEET_SIZE 192602
 
 /*

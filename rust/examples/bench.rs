@@ -8,7 +8,6 @@ use citronreef::random::Random;
 use citronreef::records::{Day, MAX_CORRECTIONS, MAX_MARKS, MAX_POSITIONS};
 use citronreef::sheet::sheet;
 use citronreef::{hashed, plain, settle, value, write_sheet, Refusal, Settled, SHEET_SIZE};
-use std::hint::black_box;
 use std::io::Write;
 use std::path::Path;
 use std::process::{Command, Stdio};
@@ -18,6 +17,16 @@ const RUNS: usize = 301;
 
 type Settle = fn(&[u8], &mut [i64]) -> Result<Settled, Refusal>;
 type Value = fn([u8; 2], u32) -> Result<u64, Refusal>;
+
+/// The same value, of which the compiler knows nothing.
+fn black_box<T>(value: T) -> T {
+    // SAFETY: the value is read once more and the first copy is forgotten, so it is moved.
+    unsafe {
+        let read = std::ptr::read_volatile(&value);
+        std::mem::forget(value);
+        read
+    }
+}
 
 /// The median times of some calls in nanoseconds. Each run makes the calls in turn, so that all meet the same machine.
 fn medians<const K: usize>(mut call: impl FnMut(usize)) -> [f64; K] {

@@ -140,8 +140,11 @@ fn damage_position(random: &mut Random, day: &mut Day) -> Option<()> {
 
 /// Puts a fault into a record, or something that only looks like one.
 pub fn damage_record(random: &mut Random, day: &mut Day) {
-    let damage = random.pick(&[damage_mark, damage_correction, damage_position]);
-    let _ = damage(random, day);
+    let _ = match random.below(3) {
+        0 => damage_mark(random, day),
+        1 => damage_correction(random, day),
+        _ => damage_position(random, day),
+    };
 }
 
 /// Changes a header number, the length, or any one bit.

@@ -1,8 +1,9 @@
 //! Safe functions over the proved library: the value, tick value and bracket of one contract, the settlement of a day file,
 //! and its sheet. The answers are those of the build description, document 01.
 //!
-//! The other modules are for the tests and the benchmark, and use nothing of the library: `products`, `plain` and `hashed` are
-//! independent builds of the same job, `sheet` prints the answer, `exact` has the exact values, and `days` makes day files.
+//! The other modules are for the tests and the benchmark, are not proved, and use nothing of the library: `products` and
+//! `plain` are an independent build of the same job, `hashed` is the same with hash tables in place of pair loops, `sheet`
+//! prints the answer, `exact` has the exact values, and `days` makes day files.
 
 pub mod answers;
 pub mod days;
@@ -42,7 +43,7 @@ pub fn settle(file: &[u8], amounts: &mut [i64]) -> Result<Settled, Refusal> {
     unsafe { sys::citronreef_settle(file.as_ptr(), file.len(), amounts.as_mut_ptr(), amounts.len()) }.answer()
 }
 
-/// The longest sheet, in bytes.
+/// No sheet is longer than this, in bytes.
 pub const SHEET_SIZE: usize = 47 * records::MAX_POSITIONS + 90;
 
 /// Settles a day file as `settle` does, writes its sheet at the start of `out`, and answers the sheet's length; the other bytes

@@ -80,7 +80,7 @@ pub fn final_prices(day: &Day) -> Vec<u32> {
     let mut highest: Vec<Option<&Correction>> = vec![None; day.marks.len()];
     for correction in &day.corrections {
         let held = &mut highest[correction.mark as usize];
-        if held.is_none_or(|other| other.number < correction.number) {
+        if held.map_or(true, |other| other.number < correction.number) {
             *held = Some(correction);
         }
     }

@@ -84,7 +84,7 @@ impl Product {
     }
 
     pub fn is_off_tick(&self, price: u32) -> bool {
-        !price.is_multiple_of(self.tick)
+        price % self.tick != 0
     }
 }
 
@@ -117,9 +117,11 @@ pub fn tick_value(code: [u8; 2], price: u32) -> Result<u64, Refusal> {
 
 /// The bracket of a bond, in units of 10^-8. A code that is no bond is refused with 4, whatever the price.
 pub fn bracket(code: [u8; 2], price: u32) -> Result<u64, Refusal> {
-    let Some(Terms::Bond { coupon, halves, .. }) = product(code).map(|product| product.terms) else {
-        return Err(Refusal::of(4));
-    };
-    checked(code, price)?;
-    Ok(bracket_at(coupon, halves, price))
+    match product(code).map(|product| product.terms) {
+        Some(Terms::Bond { coupon, halves, .. }) => {
+            checked(code, price)?;
+            Ok(bracket_at(coupon, halves, price))
+        }
+        _ => Err(Refusal::of(4)),
+    }
 }

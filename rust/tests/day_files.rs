@@ -6,7 +6,7 @@ use citronreef::days::{damage_bytes, damage_record, day, day_of};
 use citronreef::random::Random;
 use citronreef::records::{Correction, Day, Mark, Position, MAX_CORRECTIONS, MAX_MARKS, MAX_POSITIONS};
 use citronreef::sheet::sheet;
-use citronreef::{hashed, plain, settle, Refusal, Settled};
+use citronreef::{hashed, plain, settle, write_sheet, Refusal, Settled, SHEET_SIZE};
 use lent::settled_into;
 
 /// The answer of the library, which both independent builds give too, with the same amounts.
@@ -46,8 +46,13 @@ fn case_of_the_paper() {
 #[test]
 fn sheet_of_the_paper() {
     let printed = "11 IR 3 18 24060 AUD\n12 IR 3 18 -9624 AUD\ntotal AUD 14436\ntotal NZD 0\nresent 1\n";
-    assert_eq!(sheet(&day_of_the_paper().bytes(), &mut [0; 2]), printed);
-    assert_eq!(sheet(&day_of_the_paper().bytes(), &mut [0; 1]), "refused 14 at 0\n");
+    let file = day_of_the_paper().bytes();
+    for (places, expected) in [(2, printed), (1, "refused 14 at 0\n")] {
+        let mut out = vec![0; SHEET_SIZE];
+        let length = write_sheet(&file, &mut vec![0; places], &mut out);
+        assert_eq!(String::from_utf8_lossy(&out[..length]), expected);
+        assert_eq!(sheet(&file, &mut vec![0; places]), expected);
+    }
 }
 
 #[test]

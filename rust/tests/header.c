@@ -1,4 +1,4 @@
-/* Settles the case of the build description through include/citronreef.h, and prints its numbers. */
+/* Settles the case of document 01 through include/citronreef.h, and prints its numbers and its sheet. */
 #include "citronreef.h"
 #include <inttypes.h>
 #include <stdio.h>
@@ -23,6 +23,8 @@ static void print_quote(citronreef_quote q)
     printf("%" PRIu64 " %" PRIu64 "\n", q.refused, q.number);
 }
 
+static uint8_t out[CITRONREEF_SHEET_SIZE];
+
 int main(void)
 {
     int64_t amounts[3] = {-1, -1, -1};
@@ -32,5 +34,7 @@ int main(void)
     print_quote(citronreef_value('I', 'R', 950000));
     print_quote(citronreef_tick_value('I', 'R', 1000000));
     print_quote(citronreef_bracket('Y', 'T', 940000));
+    printf("%zu\n", citronreef_sheet(file, sizeof file, amounts, 3, out, sizeof out - 1));
+    fwrite(out, 1, citronreef_sheet(file, sizeof file, amounts, 3, out, sizeof out), stdout);
     return 0;
 }

@@ -10,6 +10,12 @@ const PRINTED: &str = "\
 0 98782138
 15 0
 0 10000000153
+0
+11 IR 3 18 24060 AUD
+12 IR 3 18 -9624 AUD
+total AUD 14436
+total NZD 0
+resent 1
 ";
 
 #[test]

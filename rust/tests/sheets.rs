@@ -7,22 +7,25 @@ use citronreef::sheet::sheet;
 use citronreef::{write_sheet, SHEET_SIZE};
 
 const UNTOUCHED: u8 = 0xEE;
+const GUARDS: usize = 8;
+const GUARD: i64 = i64::MIN + 77;
 
-/// The library's sheet. The bytes behind it must stay as they were.
-fn written(file: &[u8], amounts: &mut [i64]) -> Vec<u8> {
-    let mut out = vec![UNTOUCHED; SHEET_SIZE + 16];
-    let length = write_sheet(file, amounts, &mut out);
-    assert!(out[length..].iter().all(|&byte| byte == UNTOUCHED), "a byte behind the sheet was written");
-    out.truncate(length);
-    out
+/// The library's sheet, and the amounts. What stands around both slices, and behind the sheet, must stay as it was.
+fn written(file: &[u8], places: usize) -> (Vec<u8>, Vec<i64>) {
+    let mut out = vec![UNTOUCHED; SHEET_SIZE + 2 * GUARDS];
+    let mut amounts = vec![GUARD; places + 2 * GUARDS];
+    let length = write_sheet(file, &mut amounts[GUARDS..GUARDS + places], &mut out[GUARDS..GUARDS + SHEET_SIZE]);
+    assert!(out[..GUARDS].iter().chain(&out[GUARDS + length..]).all(|&byte| byte == UNTOUCHED), "a byte beside the sheet");
+    assert!(amounts[..GUARDS].iter().chain(&amounts[GUARDS + places..]).all(|&amount| amount == GUARD), "an amount outside");
+    (out[GUARDS..GUARDS + length].to_vec(), amounts[GUARDS..GUARDS + places].to_vec())
 }
 
 /// Both builds write the same sheet, and leave the same amounts.
 fn agree(file: &[u8], places: usize) {
-    let (mut ours, mut theirs) = (vec![-5; places], vec![-5; places]);
-    let text = written(file, &mut ours);
+    let (text, amounts) = written(file, places);
+    let mut theirs = vec![GUARD; places];
     assert_eq!(String::from_utf8_lossy(&text), sheet(file, &mut theirs), "file {file:?}");
-    assert_eq!(ours, theirs);
+    assert_eq!(amounts, theirs);
 }
 
 #[test]

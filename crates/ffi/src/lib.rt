@@ -104,8 +104,8 @@ pub extern "C" fn citronreef_settle(file: &[u8], amounts: &mut [i64]) -> Outcome
     day_numbers(settlement::settle(file, amounts))
 }
 
-// Settles a day file into the lent amounts, writes its sheet at the start of `out`, and answers the sheet's length. With less room than the
-// longest sheet takes nothing is written, and the answer is 0.
+// Settles a day file into the lent amounts, writes its sheet at the start of `out`, and answers the sheet's length. With room for
+// less than report::SHEET_SIZE bytes nothing is written, and the answer is 0.
 #[no_mangle]
 pub extern "C" fn citronreef_sheet(file: &[u8], amounts: &mut [i64], out: &mut [u8]) -> usize
     ensures sheet { λ r. ⌜ Wrote (sheetWithin (length (now (out .entry))) (now (file .entry)) (length (now (amounts .entry)))) r (now (out .entry)) (now (out .exit)) ⌝ }
