@@ -1,5 +1,5 @@
 // What a settlement left in the slice of amounts.
-use crate::lines::magnitude;
+use text::magnitude;
 
 // What every place holds before a settlement. No position has this amount.
 pub const UNTOUCHED: i64 = -7_777_777_777_777_777_777;
@@ -19,7 +19,7 @@ fn mix_amount(h: u64, amount: i64) -> u64 {
 }
 
 // One number for the first n amounts. Another amount in any one place makes another number.
-pub fn digest(amounts: &[i64], n: usize) -> u64 {
+pub(crate) fn digest(amounts: &[i64], n: usize) -> u64 {
     let mut h = 0;
     let mut i = 0;
     while i < n && i < amounts.len() {
@@ -30,7 +30,7 @@ pub fn digest(amounts: &[i64], n: usize) -> u64 {
 }
 
 // Whether every place from n on is as it was before the settlement.
-pub fn untouched(amounts: &[i64], n: usize) -> bool {
+pub(crate) fn untouched(amounts: &[i64], n: usize) -> bool {
     let mut i = n;
     while i < amounts.len() {
         if amounts[i] != UNTOUCHED {

@@ -17,7 +17,7 @@ use Rattle.settlement.specs.Records.{Lists, positionAt, markSize, positionSize}
 use Rattle.settlement.specs.Checks.{numberPair, repeating, ruleOf, numberOf, verdictOf}
 use Rattle.settlement.specs.Layout.{openedOf, listsIn, listsOfFile, countsOf, headerSize, positionsStart, markBytes, positionBytes}
 use Rattle.settlement.specs.Conditions.{Reason, Short, Counts, Layout, Record, Room, Holds, reasonNumber}
-use Rattle.settlement.specs.Settling.{settled, refused, accept, refuse, listsPlan, planOf, answerBy, answerOf, amountOf, changeIn, totalOf, shareOf, resentOf, totals}
+use Rattle.settlement.specs.Settling.{refused, accept, refuse, listsPlan, planOf, answerBy, answerOf, amountOf, changeIn, totalOf, shareOf, resentOf, totals}
 use Rattle.settlement.specs.Steps.{Small, LaidOut, amountCap}
 use Rattle.settlement.specs.declared.records.Correction.{Correction}
 use Rattle.settlement.specs.declared.file.DayFile.{DayFile}

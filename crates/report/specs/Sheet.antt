@@ -30,19 +30,19 @@ sheetOf file places = positionsText (planOf fileLimits file places) ++ answerTex
 
 -- ---- sizes in bytes
 
--- the longest line of a position: account 10, code 2, month 3, year 3, amount 20, currency 3, and a byte behind each
+-- no line of a position is longer: account 10, code 2, month 3, year 3, amount 20, currency 3, and a byte behind each
 abbrev pub lineSize : ℕ
 lineSize = 47
 
--- the longest answer: two totals of 31, and 28 for the resent count
+-- no answer is longer: two totals of 31, and 28 for the resent count
 abbrev pub answerSize : ℕ
 answerSize = 90
 
--- the longest sheet
+-- no sheet is longer
 abbrev pub sheetSize : ℕ
 sheetSize = lineSize * fileLimits .positions + answerSize
 
--- the sheet, for a buffer of so many bytes: with less than the longest sheet nothing is written, neither sheet nor amounts
+-- the sheet, for a buffer of so many bytes: with less than this nothing is written, neither sheet nor amounts
 unfoldable pub sheetWithin : ℕ → List ℕ → ℕ → List ℕ
 sheetWithin room file places = cond (leb sheetSize room) (sheetOf file places) []
 

@@ -17,13 +17,13 @@ use settlement::Settlement;
 use settlement::open_file;
 use settlement::settle;
 
-// The longest line of a position, in bytes.
+// No line of a position has more bytes.
 const LINE_SIZE: usize = 47;
 
-// The longest answer: two totals and the resent count.
+// No answer has more: two totals and the resent count.
 const ANSWER_SIZE: usize = 90;
 
-// The longest sheet.
+// No sheet has more.
 pub const SHEET_SIZE: usize = LINE_SIZE * DayFile::MAX_POSITIONS + ANSWER_SIZE;
 
 // How many positions were settled.

@@ -15,7 +15,8 @@ ghost use lib.ListN.{length};
 ghost use Rattle.settlement.specs.Limits.{fileLimits};
 ghost use Rattle.settlement.specs.Records.{marksIn, correctionsIn, markAt};
 ghost use Rattle.settlement.specs.Prices.{newerOf, orToday, finalOf, changeOf, valueAt};
-ghost use Rattle.settlement.specs.Steps.{valueCap, changesOf, EachLatest};
+ghost use Rattle.pricing.specs.Value.{valueCap};
+ghost use Rattle.settlement.specs.Steps.{changesOf, EachLatest};
 
 // The highest-numbered correction of a mark so far.
 pub enum Latest {

@@ -9,7 +9,7 @@ use pricing::lookup;
 ghost use mathlib.Core.Path.{_≡_};
 ghost use Prim.Native.Nat.{_<_, _≤_};
 ghost use Rattle.settlement.specs.Products.{aboveLimit, listed, quoted, tickOf, currencyOf, worthOf};
-ghost use Rattle.settlement.specs.Steps.{valueCap};
+ghost use Rattle.pricing.specs.Value.{valueCap};
 
 // Whether a price is above the highest one.
 pub(crate) fn above_limit(p: u32) -> bool

@@ -30,7 +30,7 @@ pub enum Input {
 }
 
 // Reads until the buffer is full or the input ends. A read that fails is an answer of its own.
-pub fn read_file(file: &mut [u8]) -> Input
+pub(crate) fn read_file(file: &mut [u8]) -> Input
     ensures { λ r. ⌜ Holds r (now (file .exit)) ⌝ }
 {
     let mut n = 0;

@@ -49,7 +49,7 @@ pub fn write_decimal(n: u64, out: &mut [u8]) -> usize
 }
 
 // A number without its sign.
-fn magnitude(n: i64) -> u64
+pub fn magnitude(n: i64) -> u64
     ensures { λ r. ⌜ r ≡ natAbs n ⌝ }
 {
     if n < 0 {
