@@ -1,6 +1,6 @@
 -- Document 01's case: the file of 84 bytes prints its five lines.
 use mathlib.Core.Path.{_≡_, refl}
-use mathlib.Core.List.{List, [], _∷_, _++_}
+use mathlib.Core.List.{List, _++_}
 use Prim.Native.Nat.{ℕ}
 use Rattle.numbers.specs.Rounding.{nearest}
 use Rattle.pricing.specs.Prices.{par, priceLimit, yieldAt}
@@ -15,19 +15,12 @@ use Rattle.settlement.specs.Checks.{verdictOf}
 use Rattle.settlement.specs.Layout.{countsOf, openedOf}
 use Rattle.settlement.specs.Prices.{latestOf, finalOf, changeOf}
 use Rattle.settlement.specs.Settling.{amountOf, totalOf, planOf, answerOf}
+use Rattle.settlement.proofs.Example.{marks, corrections, positions, caseFile}
 use Rattle.text.specs.Ascii.{ascii}
 use Rattle.text.specs.Writing.{texts}
 use Rattle.text.specs.Decimal.{digitsWithin, decimal, signedDecimal}
 use Rattle.report.specs.Lines.{lettersOf, positionLine, totalLine, resentLine, refusalLine}
 use Rattle.report.specs.Sheet.{answerText, positionsText, sheetOf}
-
--- header, mark, corrections, positions
-pub file : List ℕ
-file =
-    u32Bytes 1 ++ u32Bytes 24 ++ u32Bytes 2 ++ u32Bytes 36 ++ u32Bytes 2 ++ u32Bytes 60
-    ++ (73 ∷ 82 ∷ 3 ∷ 18 ∷ []) ++ u32Bytes 950000 ++ u32Bytes 950200
-    ++ u32Bytes 7 ++ u32Bytes 0 ++ u32Bytes 950100 ++ u32Bytes 7 ++ u32Bytes 0 ++ u32Bytes 950100
-    ++ u32Bytes 11 ++ u32Bytes 0 ++ u32Bytes 10 ++ u32Bytes 12 ++ u32Bytes 0 ++ u32Bytes 4294967292
 
 pub printed : List ℕ
 printed =
@@ -38,6 +31,6 @@ printed =
     ++ ascii "resent 1\n"
 
 -- with room for its amounts, and settled into a slice of one place
-pub case-prints : (sheetOf file 4096 ≡ printed) × (sheetOf file 1 ≡ ascii "refused 14 at 0\n")
-unfolding file printed nearest par priceLimit yieldAt products sameCode findIn find hasMonth billDividend billDivisor valueBy judged valueOf u32At signed recordsOf first some markAt correctionAt positionAt listed quoted tickOf currencyOf worthOf verdictOf countsOf openedOf latestOf finalOf changeOf amountOf totalOf planOf answerOf u32Bytes texts digitsWithin decimal signedDecimal lettersOf positionLine totalLine resentLine refusalLine answerText positionsText sheetOf
+pub case-prints : (sheetOf caseFile 4096 ≡ printed) × (sheetOf caseFile 1 ≡ ascii "refused 14 at 0\n")
+unfolding marks corrections positions caseFile printed nearest par priceLimit yieldAt products sameCode findIn find hasMonth billDividend billDivisor valueBy judged valueOf u32At signed recordsOf first some markAt correctionAt positionAt listed quoted tickOf currencyOf worthOf verdictOf countsOf openedOf latestOf finalOf changeOf amountOf totalOf planOf answerOf u32Bytes texts digitsWithin decimal signedDecimal lettersOf positionLine totalLine resentLine refusalLine answerText positionsText sheetOf
 case-prints = (refl, refl)
