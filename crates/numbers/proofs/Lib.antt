@@ -1,6 +1,9 @@
 pub mod Truth
 pub mod Chain
 pub mod Searches
+pub mod Last
+pub mod Held
+pub mod Buckets
 pub mod Counting
 pub mod Order
 pub mod Tables

@@ -20,5 +20,6 @@ pub mod Changes
 pub mod Sizes
 pub mod Kept
 pub mod Latests
+pub mod Pairs
 pub mod Fields
 pub mod Wall

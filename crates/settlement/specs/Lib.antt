@@ -4,6 +4,7 @@ pub mod Layout
 pub mod Products
 pub mod Faults
 pub mod Checks
+pub mod Earlier
 pub mod Conditions
 pub mod Prices
 pub mod Settling

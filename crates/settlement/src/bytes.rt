@@ -12,7 +12,7 @@ fn wide(x: u8) -> u32
 }
 
 // Four bytes, the lowest first.
-fn join(a: u8, b: u8, c: u8, d: u8) -> u32
+pub(crate) fn join(a: u8, b: u8, c: u8, d: u8) -> u32
     ensures { λ r. ⌜ r ≡ joined a b c d ⌝ }
 {
     wide(a) + 256 * wide(b) + 65_536 * wide(c) + 16_777_216 * wide(d)

@@ -45,7 +45,7 @@ pub enum Pair {
 }
 
 // Whether records i and k of a section are such a pair.
-fn paired(section: &[u8], p: Pair, i: usize, k: usize) -> bool
+pub(crate) fn paired(section: &[u8], p: Pair, i: usize, k: usize) -> bool
     ensures { λ r. ⌜ r ≡ pairing (now (section .entry)) p i k ⌝ }
 {
     match p {
