@@ -21,5 +21,7 @@ pub mod Sizes
 pub mod Kept
 pub mod Latests
 pub mod Pairs
+pub mod Clashes
+pub mod Told
 pub mod Fields
 pub mod Wall

@@ -4,10 +4,10 @@ pub mod Layout
 pub mod Products
 pub mod Faults
 pub mod Checks
-pub mod Earlier
 pub mod Conditions
 pub mod Prices
 pub mod Settling
 pub mod Steps
+pub mod Earlier
 pub mod Resend
 pub mod Making

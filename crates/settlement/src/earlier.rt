@@ -46,7 +46,8 @@ fn bucket(section: &[u8], p: Pair, i: usize) -> usize
     scatter(key(section, p, i))
 }
 
-fn wide(x: u16) -> usize
+// A place of the array as an index.
+pub(crate) fn wide(x: u16) -> usize
     ensures { λ r. ⌜ r ≡ x ⌝ }
 {
     x as usize

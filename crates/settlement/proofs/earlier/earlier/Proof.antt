@@ -11,10 +11,6 @@ use Rattle.numbers.proofs.Buckets.{head-more, head-none, link-more}
 use borrow.Author.Needs.{needs}
 use Rattle.settlement.proofs.earlier.earlier.Statement.{statement}
 use Rattle.settlement.proofs.earlier.earlier.Tie as tie
-use Rattle.settlement.proofs.earlier.earlier.Reads as reads
-use Rattle.settlement.proofs.earlier.earlier.Lts as lts
-use Rattle.settlement.proofs.earlier.bucket.Reads as bucket-reads
-use Rattle.settlement.proofs.earlier.last_paired.Reads as last-paired-reads
 
 abbrev Inv-loop : tie.InvT-loop
 Inv-loop section p n head₀ link₀ found₀ i₀ head link found i =
@@ -24,84 +20,65 @@ Inv-loop section p n head₀ link₀ found₀ i₀ head link found i =
 abbrev μ-loop : tie.MeasureT-loop
 μ-loop section p n head₀ link₀ found₀ i₀ head link found i = n - i
 
--- src/earlier.rt:80:5
 loop-holds : tie.Need-loop-holds Inv-loop μ-loop
 loop-holds c =
     let a = c .before .args in
     ((omega arith, refl, refl, refl), head-none (bucketOf (a .section .now) (a .p)) 4096, holds-none, holds-none)
 
--- src/earlier.rt:81:13
-bucket-requires : tie.Need-bucket-requires Inv-loop μ-loop
-bucket-requires c κs = search needs
-
--- src/earlier.rt:82:19
 mul-link : tie.Need-mul-link Inv-loop μ-loop
 mul-link c = omega (arith, c .bucket .ensures .1)
 
--- src/earlier.rt:82:19
 array-read-link : tie.Need-array-read-link Inv-loop μ-loop
 array-read-link c = c .bucket .ensures .1
 
--- src/earlier.rt:82:9
 mul-link-2 : tie.Need-mul-link-2 Inv-loop μ-loop
 mul-link-2 c = omega arith
 
--- src/earlier.rt:82:9
 array-write-link : tie.Need-array-write-link Inv-loop μ-loop
 array-write-link c = omega arith
 
--- src/earlier.rt:83:20
 last-paired-requires : tie.Need-last-paired-requires Inv-loop μ-loop
 last-paired-requires c κs =
     let at = c .before .before .before .loop in
     let a = c .before .before .before .before .before .args in
     (link-more (bucketOf (a .section .now) (a .p)) (at .i) (c .before .bucket .result) (c .before .bucket .ensures .0) (c .before .bucket .ensures .1) (omega arith) (at .inv .1) (at .inv .2), omega arith)
 
--- src/earlier.rt:83:20
 cast-found : tie.Need-cast-found Inv-loop μ-loop
 cast-found c = omega (arith, c .last-paired .ensures .1)
 
--- src/earlier.rt:83:9
 mul-found : tie.Need-mul-found Inv-loop μ-loop
 mul-found c = omega arith
 
--- src/earlier.rt:83:9
 array-write-found : tie.Need-array-write-found Inv-loop μ-loop
 array-write-found c = omega arith
 
--- src/earlier.rt:84:9
 add-i : tie.Need-add-i Inv-loop μ-loop
 add-i c = omega arith
 
--- src/earlier.rt:85:19
 cast-head : tie.Need-cast-head Inv-loop μ-loop
 cast-head c = omega arith
 
--- src/earlier.rt:85:9
 mul-head : tie.Need-mul-head Inv-loop μ-loop
 mul-head c = omega (arith, c .before .before .bucket .ensures .1)
 
--- src/earlier.rt:85:9
 array-write-head : tie.Need-array-write-head Inv-loop μ-loop
 array-write-head c = c .before .before .bucket .ensures .1
 
--- src/earlier.rt:80:5
 loop-less : tie.Need-loop-less Inv-loop μ-loop
 loop-less c = omega arith
 
--- src/earlier.rt:80:5
 loop-again : tie.Need-loop-again Inv-loop μ-loop
 loop-again c =
     let at = c .before .before .before .before .loop in
     let a = c .before .before .before .before .before .before .args in
     let b = bucketOf (a .section .now) (a .p) in
-    let x = c .before .before .bucket in
-    ( (omega arith, simp length-set (at .inv .0 .1), simp length-set (at .inv .0 .2), simp length-set (at .inv .0 .3)),
+    let x = c .before .before .bucket in (
+      (omega arith, simp length-set (at .inv .0 .1), simp length-set (at .inv .0 .2), simp length-set (at .inv .0 .3)),
       head-more b (at .i) (x .result) (x .ensures .0) (omega (arith, x .ensures .1)) (at .inv .1),
       link-more b (at .i) (x .result) (x .ensures .0) (x .ensures .1) (omega arith) (at .inv .1) (at .inv .2),
-      holds-more (omega arith) (c .last-paired .ensures .0) (at .inv .3))
+      holds-more (omega arith) (c .last-paired .ensures .0) (at .inv .3),
+    )
 
--- src/earlier.rt:72:1
 returns : tie.Need-returns Inv-loop μ-loop
 returns c = rw (le-antisymm (c .loop-test .left) (c .before .loop .inv .0 .0)) (c .before .loop .inv .3)
 
@@ -112,7 +89,7 @@ earlier-spec =
     Inv-loop
     μ-loop
     loop-holds
-    bucket-requires
+    (λ c κs. search needs)
     mul-link
     array-read-link
     mul-link-2

@@ -8,10 +8,6 @@ use Rattle.settlement.proofs.Pairs.{pairs-agree}
 use borrow.Author.Needs.{needs}
 use Rattle.settlement.proofs.earlier.last_paired.Statement.{statement}
 use Rattle.settlement.proofs.earlier.last_paired.Tie as tie
-use Rattle.settlement.proofs.earlier.last_paired.Reads as reads
-use Rattle.settlement.proofs.earlier.last_paired.Lts as lts
-use Rattle.settlement.proofs.checks.paired.Reads as paired-reads
-use Rattle.settlement.proofs.earlier.wide.Reads as wide-reads
 
 abbrev Inv-loop : tie.InvT-loop
 Inv-loop section p link i k₀ k = Walk (pairing section p i) (bucketOf section p) i k
@@ -19,34 +15,21 @@ Inv-loop section p link i k₀ k = Walk (pairing section p i) (bucketOf section 
 abbrev μ-loop : tie.MeasureT-loop
 μ-loop section p link i k₀ k = k
 
--- src/earlier.rt:60:22
 mul-wide : tie.Need-mul-wide Inv-loop μ-loop
 mul-wide c = omega arith
 
--- src/earlier.rt:60:22
 element-copy-out-wide : tie.Need-element-copy-out-wide Inv-loop μ-loop
 element-copy-out-wide c = omega arith
 
--- src/earlier.rt:60:9
-wide-requires : tie.Need-wide-requires Inv-loop μ-loop
-wide-requires c κs = search needs
-
--- src/earlier.rt:61:5
 loop-holds : tie.Need-loop-holds Inv-loop μ-loop
 loop-holds c =
     let s = c .before .before .before in
     let a = s .args in
     walk-start (bucketOf (a .section .now) (a .p)) (pairing (a .section .now) (a .p) (a .i)) (a .i) (pairs-agree (a .section .now) (a .p) (a .i)) (c .wide .ensures ∙ s .pre .0 .entry (a .i) (omega arith))
 
--- src/earlier.rt:62:17
 sub-j : tie.Need-sub-j Inv-loop μ-loop
 sub-j c = omega arith
 
--- src/earlier.rt:63:12
-paired-requires : tie.Need-paired-requires Inv-loop μ-loop
-paired-requires c κs = search needs
-
--- src/earlier.rt:64:13
 returns : tie.Need-returns Inv-loop μ-loop
 returns c =
     let s = c .before .before .before .before .before .before .before in
@@ -56,19 +39,12 @@ returns c =
     let e : at .k ≡ suc j = omega arith in
     (e ∙ walk-found (pairing (a .section .now) (a .p) (a .i)) (bucketOf (a .section .now) (a .p)) (a .i) j (rw e at (at .inv)) (sym (c .before .paired .ensures) ∙ c .if1 .taken), at .inv .below)
 
--- src/earlier.rt:66:18
 mul-wide-2 : tie.Need-mul-wide-2 Inv-loop μ-loop
 mul-wide-2 c = omega arith
 
--- src/earlier.rt:66:18
 element-copy-out-wide-2 : tie.Need-element-copy-out-wide-2 Inv-loop μ-loop
 element-copy-out-wide-2 c = omega arith
 
--- src/earlier.rt:66:9
-wide-requires-2 : tie.Need-wide-requires-2 Inv-loop μ-loop
-wide-requires-2 c κs = search needs
-
--- src/earlier.rt:61:5
 loop-less : tie.Need-loop-less Inv-loop μ-loop
 loop-less c =
     let s = c .before .before .before .before .before .before .before .before .before in
@@ -78,7 +54,6 @@ loop-less c =
     let e : at .k ≡ suc j = omega (arith, c .before .before .before .before .loop-test .taken) in
     rw e (link-less (bucketOf (a .section .now) (a .p)) j (c .wide2 .ensures ∙ s .pre .0 .entry j (omega (arith, at .inv .below))))
 
--- src/earlier.rt:61:5
 loop-again : tie.Need-loop-again Inv-loop μ-loop
 loop-again c =
     let s = c .before .before .before .before .before .before .before .before .before in
@@ -88,7 +63,6 @@ loop-again c =
     let e : at .k ≡ suc j = omega (arith, c .before .before .before .before .loop-test .taken) in
     walk-on (bucketOf (a .section .now) (a .p)) (pairing (a .section .now) (a .p) (a .i)) (a .i) (pairs-agree (a .section .now) (a .p) (a .i)) j (rw e at (at .inv)) (sym (c .before .before .before .paired .ensures) ∙ c .before .before .if1 .left) (c .wide2 .ensures ∙ s .pre .0 .entry j (omega (arith, at .inv .below)))
 
--- src/earlier.rt:56:1
 returns-2 : tie.Need-returns-2 Inv-loop μ-loop
 returns-2 c =
     let a = c .before .before .before .before .before .args in
@@ -102,14 +76,14 @@ last-paired-spec =
     μ-loop
     mul-wide
     element-copy-out-wide
-    wide-requires
+    (λ c κs. search needs)
     loop-holds
     sub-j
-    paired-requires
+    (λ c κs. search needs)
     returns
     mul-wide-2
     element-copy-out-wide-2
-    wide-requires-2
+    (λ c κs. search needs)
     loop-less
     loop-again
     returns-2)
