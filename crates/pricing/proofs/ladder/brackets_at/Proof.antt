@@ -6,11 +6,6 @@ use Rattle.pricing.proofs.Climbing.{Climbed, begin, next, step-low, v-l
 use borrow.Author.Needs.{needs}
 use Rattle.pricing.proofs.ladder.brackets_at.Statement.{statement}
 use Rattle.pricing.proofs.ladder.brackets_at.Tie as tie
-use Rattle.pricing.proofs.ladder.brackets_at.Reads as reads
-use Rattle.pricing.proofs.ladder.brackets_at.Lts as lts
-use Rattle.numbers.proofs.nearest.Reads as nearest-reads
-use Rattle.pricing.proofs.ladder.descaled.Reads as descaled-reads
-use Rattle.pricing.proofs.ladder.divisor.Reads as divisor-reads
 
 abbrev Inv-loop : tie.InvT-loop
 Inv-loop coupon halves p q first other v₀ w₀ sum₀ total₀ k₀ v w sum total k = Climbed p halves first v sum k × Climbed q halves other w total k
@@ -18,100 +13,53 @@ Inv-loop coupon halves p q first other v₀ w₀ sum₀ total₀ k₀ v w sum to
 abbrev μ-loop : tie.MeasureT-loop
 μ-loop coupon halves p q first other v₀ w₀ sum₀ total₀ k₀ v w sum total k = halves - k
 
--- src/ladder.rt:57:34
-mul-nearest : tie.Need-mul-nearest Inv-loop μ-loop
-mul-nearest c = search needs
-
--- src/ladder.rt:57:48
-divisor-requires : tie.Need-divisor-requires Inv-loop μ-loop
-divisor-requires c κs = search needs
-
--- src/ladder.rt:57:9
-nearest-requires : tie.Need-nearest-requires Inv-loop μ-loop
-nearest-requires c κs = search needs
-
--- src/ladder.rt:58:34
-mul-nearest-2 : tie.Need-mul-nearest-2 Inv-loop μ-loop
-mul-nearest-2 c = search needs
-
--- src/ladder.rt:58:48
-divisor-requires-2 : tie.Need-divisor-requires-2 Inv-loop μ-loop
-divisor-requires-2 c κs = search needs
-
--- src/ladder.rt:58:9
-nearest-requires-2 : tie.Need-nearest-requires-2 Inv-loop μ-loop
-nearest-requires-2 c κs = search needs
-
--- src/ladder.rt:64:5
 loop-holds : tie.Need-loop-holds Inv-loop μ-loop
 unfolding scale
 loop-holds c =
     let n = c .before .before .before .before .pre .1 in
     (begin n (rw (c .before .before .before .divisor .ensures) at (c .before .before .nearest .ensures)), begin n (rw (c .before .divisor2 .ensures) at (c .nearest2 .ensures)))
 
--- src/ladder.rt:65:22
 mul-descaled : tie.Need-mul-descaled Inv-loop μ-loop
 mul-descaled c = omega (arith, product-low (c .before .loop .inv .0) (c .before .before .before .before .before .before .pre .3))
 
--- src/ladder.rt:65:9
 descaled-requires : tie.Need-descaled-requires Inv-loop μ-loop
 descaled-requires c κs = omega (arith, product-low (c .before .loop .inv .0) (c .before .before .before .before .before .before .pre .3))
 
--- src/ladder.rt:66:22
 mul-descaled-2 : tie.Need-mul-descaled-2 Inv-loop μ-loop
 mul-descaled-2 c = omega (arith, product-low (c .before .before .loop .inv .1) (c .before .before .before .before .before .before .before .pre .4))
 
--- src/ladder.rt:66:9
 descaled-requires-2 : tie.Need-descaled-requires-2 Inv-loop μ-loop
 descaled-requires-2 c κs = omega (arith, product-low (c .before .before .loop .inv .1) (c .before .before .before .before .before .before .before .pre .4))
 
--- src/ladder.rt:67:9
 add-sum : tie.Need-add-sum Inv-loop μ-loop
 add-sum c = omega (arith, step-low (c .before .before .before .loop .inv .0) (c .before .before .before .before .before .before .before .before .pre .3) (c .before .before .before .before .before .before .before .before .pre .2) (c .before .before .loop-test .taken) (c .before .descaled .ensures))
 
--- src/ladder.rt:68:9
 add-total : tie.Need-add-total Inv-loop μ-loop
 add-total c = omega (arith, step-low (c .before .before .before .loop .inv .1) (c .before .before .before .before .before .before .before .before .pre .4) (c .before .before .before .before .before .before .before .before .pre .2) (c .before .before .loop-test .taken) (c .descaled2 .ensures))
 
--- src/ladder.rt:69:9
-add-k : tie.Need-add-k Inv-loop μ-loop
-add-k c = search needs
-
--- src/ladder.rt:64:5
-loop-less : tie.Need-loop-less Inv-loop μ-loop
-loop-less c = search needs
-
--- src/ladder.rt:64:5
 loop-again : tie.Need-loop-again Inv-loop μ-loop
 loop-again c =
     let h = c .before .before .loop-test .taken in
     (next (c .before .before .before .loop .inv .0) _ h (c .before .descaled .ensures), next (c .before .before .before .loop .inv .1) _ h (c .descaled2 .ensures))
 
--- src/ladder.rt:71:9
 mul-t12 : tie.Need-mul-t12 Inv-loop μ-loop
 mul-t12 c = omega (arith, coupons-low (c .before .loop .inv .0) (c .before .before .before .before .before .before .pre .3) (c .before .before .before .before .before .before .pre .2) (c .before .before .before .before .before .before .pre .0))
 
--- src/ladder.rt:71:24
 mul-t13 : tie.Need-mul-t13 Inv-loop μ-loop
 mul-t13 c = omega (arith, v-low (c .before .loop .inv .0) (c .before .before .before .before .before .before .pre .3))
 
--- src/ladder.rt:71:9
 add-t16 : tie.Need-add-t16 Inv-loop μ-loop
 add-t16 c = omega (arith, coupons-low (c .before .loop .inv .0) (c .before .before .before .before .before .before .pre .3) (c .before .before .before .before .before .before .pre .2) (c .before .before .before .before .before .before .pre .0), v-low (c .before .loop .inv .0) (c .before .before .before .before .before .before .pre .3))
 
--- src/ladder.rt:71:33
 mul-t17 : tie.Need-mul-t17 Inv-loop μ-loop
 mul-t17 c = omega (arith, coupons-low (c .before .loop .inv .1) (c .before .before .before .before .before .before .pre .4) (c .before .before .before .before .before .before .pre .2) (c .before .before .before .before .before .before .pre .0))
 
--- src/ladder.rt:71:50
 mul-t18 : tie.Need-mul-t18 Inv-loop μ-loop
 mul-t18 c = omega (arith, v-low (c .before .loop .inv .1) (c .before .before .before .before .before .before .pre .4))
 
--- src/ladder.rt:71:33
 add-t19 : tie.Need-add-t19 Inv-loop μ-loop
 add-t19 c = omega (arith, coupons-low (c .before .loop .inv .1) (c .before .before .before .before .before .before .pre .4) (c .before .before .before .before .before .before .pre .2) (c .before .before .before .before .before .before .pre .0), v-low (c .before .loop .inv .1) (c .before .before .before .before .before .before .pre .4))
 
--- src/ladder.rt:53:1
 returns : tie.Need-returns Inv-loop μ-loop
 returns c = let h = c .loop-test .left in (climbed _ (c .before .loop .inv .0) h, climbed _ (c .before .loop .inv .1) h)
 
@@ -121,12 +69,12 @@ brackets-at-spec =
     (tie.spec
     Inv-loop
     μ-loop
-    mul-nearest
-    divisor-requires
-    nearest-requires
-    mul-nearest-2
-    divisor-requires-2
-    nearest-requires-2
+    (λ c. search needs)
+    (λ c κs. search needs)
+    (λ c κs. search needs)
+    (λ c. search needs)
+    (λ c κs. search needs)
+    (λ c κs. search needs)
     loop-holds
     mul-descaled
     descaled-requires
@@ -134,8 +82,8 @@ brackets-at-spec =
     descaled-requires-2
     add-sum
     add-total
-    add-k
-    loop-less
+    (λ c. search needs)
+    (λ c. search needs)
     loop-again
     mul-t12
     mul-t13

@@ -5,32 +5,19 @@ use Rattle.pricing.proofs.Climbing.{face-low}
 use borrow.Author.Needs.{needs}
 use Rattle.pricing.proofs.values.bonds_at.Statement.{statement}
 use Rattle.pricing.proofs.values.bonds_at.Tie as tie
-use Rattle.pricing.proofs.values.bonds_at.Reads as reads
-use Rattle.pricing.proofs.values.bonds_at.Lts as lts
-use Rattle.pricing.proofs.ladder.brackets_at.Reads as brackets-at-reads
-use Rattle.pricing.proofs.ladder.descaled.Reads as descaled-reads
 
--- src/values.rt:60:9
-brackets-at-requires : tie.Need-brackets-at-requires
-brackets-at-requires c κs = search needs
-
--- src/values.rt:61:18
 mul-descaled : tie.Need-mul-descaled
 mul-descaled c = omega (arith, face-low (c .before .before .pre .0) (c .before .before .pre .1) (c .before .brackets-at .ensures .0))
 
--- src/values.rt:61:9
 descaled-requires : tie.Need-descaled-requires
 descaled-requires c κs = omega (arith, face-low (c .before .before .pre .0) (c .before .before .pre .1) (c .before .brackets-at .ensures .0))
 
--- src/values.rt:61:40
 mul-descaled-2 : tie.Need-mul-descaled-2
 mul-descaled-2 c = omega (arith, face-low (c .before .before .before .before .pre .0) (c .before .before .before .before .pre .2) (c .before .before .before .brackets-at .ensures .1))
 
--- src/values.rt:61:31
 descaled-requires-2 : tie.Need-descaled-requires-2
 descaled-requires-2 c κs = omega (arith, face-low (c .before .before .before .before .pre .0) (c .before .before .before .before .pre .2) (c .before .before .before .brackets-at .ensures .1))
 
--- src/values.rt:56:1
 returns : tie.Need-returns
 unfolding valueBy
 returns c =
@@ -41,7 +28,7 @@ pub bonds-at-spec : {M : Type 1} → statement M
 bonds-at-spec =
     tie.close
     (tie.spec
-    brackets-at-requires
+    (λ c κs. search needs)
     mul-descaled
     descaled-requires
     mul-descaled-2
