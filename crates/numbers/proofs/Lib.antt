@@ -13,6 +13,7 @@ pub mod Nearness
 pub mod Powers
 pub mod Sums
 pub mod Integers
+pub mod TwosComplement
 pub mod Signed
 pub mod Signs
 pub mod SignedSums

@@ -38,9 +38,5 @@ pub(crate) fn u32_at(s: &[u8], i: usize) -> u32
 pub(crate) fn as_signed(u: u32) -> i64
     ensures { λ r. ⌜ r ≡ signed u ⌝ }
 {
-    if u < 2_147_483_648 {
-        u as i64
-    } else {
-        (u as i64) - 4_294_967_296
-    }
+    (std::num::wrapping_add_u32(u, 2_147_483_648) as i64) - 2_147_483_648
 }
