@@ -1,6 +1,9 @@
 pub mod Truth
 pub mod Chain
 pub mod Searches
+pub mod Last
+pub mod Held
+pub mod Buckets
 pub mod Counting
 pub mod Order
 pub mod Tables
@@ -10,6 +13,7 @@ pub mod Nearness
 pub mod Powers
 pub mod Sums
 pub mod Integers
+pub mod TwosComplement
 pub mod Signed
 pub mod Signs
 pub mod SignedSums

@@ -1,5 +1,5 @@
 -- The laws of searches and counts by index: each loop cites these, whatever its test.
-use mathlib.Core.Path.{_≡_, refl}
+use mathlib.Core.Path.{_≡_, refl, sym, _∙_}
 use mathlib.Core.Bool.{Bool, true, false, cond, _||_}
 use mathlib.Core.Logic.{⊎-elim}
 use Prim.Native.Nat.{ℕ, zero, suc, _+_, _<_}
@@ -69,6 +69,13 @@ some-clear t zero k p h = absurd (not-suc-le-zero h)
 some-clear t (suc n) k p h =
     let b : (some t n ≡ false) × (t n ≡ false) = or-none (some t n) (t n) p in
     ⊎-elim (λ (e : k ≡ n). rw e (b .1)) (λ (l : k < n). some-clear t n k (b .0) l) (eq-or-lt-of-le (le-of-suc-le-suc h))
+
+pub some-at : (t : ℕ → Bool) (n k : ℕ) → k < n → t k ≡ true → some t n ≡ true
+some-at t n k h e = go (some t n) refl
+  where
+    go : (b : Bool) → some t n ≡ b → some t n ≡ true
+    go true p = p
+    go false p = absurd (let z : _≡_ {A = ℕ} 0 1 = (let w : true ≡ false = sym e ∙ some-clear t n k p h in cc) in omega arith)
 
 pub clear-some : (t : ℕ → Bool) (n : ℕ) → ((k : ℕ) → k < n → t k ≡ false) → some t n ≡ false
 unfolding some

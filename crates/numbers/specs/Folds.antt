@@ -1,8 +1,9 @@
 -- Searches, counts and sums over the indices below n, and lists filled by index.
-use Prim.Native.Nat.{ℕ, zero, suc, _+_}
+use Prim.Native.Nat.{ℕ, zero, suc, _+_, _<_}
+use mathlib.Core.Path.{_≡_}
 use mathlib.Core.Bool.{Bool, false, cond, _||_}
 use mathlib.Core.List.{List, [], _∷_, _++_}
-use lib.ListN.{drop}
+use lib.ListN.{getD, drop}
 use lib.IntN.{ℤ, pos, _+ℤ_}
 use Rattle.numbers.specs.declared.Found.{Found}
 use Rattle.numbers.specs.declared.Found.the-variants.{At, Nothing}
@@ -16,6 +17,11 @@ orElse Nothing o = o
 unfoldable pub first : (ℕ → Bool) → ℕ → Found
 first t zero = Nothing
 first t (suc n) = orElse (first t n) (cond (t n) (At n) Nothing)
+
+-- one more than the last index below n that passes a test, 0 where none does
+unfoldable pub last : (ℕ → Bool) → ℕ → ℕ
+last t zero = 0
+last t (suc n) = cond (t n) (suc n) (last t n)
 
 -- some index below n passes a test
 unfoldable pub some : (ℕ → Bool) → ℕ → Bool
@@ -40,3 +46,7 @@ table f (suc n) = table f n ++ (f n ∷ [])
 -- a list with f 0 .. f (n - 1) in its first n places
 abbrev pub front : {A : Type 0} → (ℕ → A) → List A → ℕ → List A
 front f a n = table f n ++ drop n a
+
+-- a list has f 0 .. f (n - 1) in its first n places; d is read past its end
+pub record Holds {A : Type 0} (d : A) (f : ℕ → A) (n : ℕ) (r : List A) : Type 0 where
+  pub entry : (i : ℕ) → i < n → getD r i d ≡ f i

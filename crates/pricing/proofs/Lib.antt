@@ -3,6 +3,7 @@ pub mod Distance
 pub mod Exact
 pub mod Table
 pub mod Bounds
+pub mod Climbing
 pub mod Rise
 pub mod Answers
 pub mod Refusals

@@ -9,6 +9,7 @@ use crate::products::PRICE_LIMIT;
 use crate::products::Terms;
 use crate::products::lookup;
 use crate::values::value_at;
+use crate::values::values_at;
 
 // The number asked for, or the number of the check that turns the call away.
 pub enum Priced {
@@ -48,6 +49,29 @@ pub fn value(code: Code, p: u32) -> Priced
             Judged::Failed(k) => Priced::Refused(k),
         },
         Found::Missing => Priced::Refused(4),
+    }
+}
+
+// The answers for two prices of one contract.
+pub struct TwoPriced(pub Priced, pub Priced);
+
+// The values of one contract at two prices, in cents.
+pub fn two_values(code: Code, p: u32, q: u32) -> TwoPriced
+    ensures { λ r. ⌜ (said (r .0) ≡ valueOf code p) × (said (r .1) ≡ valueOf code q) ⌝ }
+{
+    match lookup(code) {
+        Found::At(x) => match judge(x.tick, p) {
+            Judged::Passed => match judge(x.tick, q) {
+                Judged::Passed => {
+                    let t = x.terms;
+                    let v = values_at(t, p as u64, q as u64);
+                    TwoPriced(Priced::Given(v.0), Priced::Given(v.1))
+                }
+                Judged::Failed(_) => TwoPriced(value(code, p), value(code, q)),
+            },
+            Judged::Failed(_) => TwoPriced(value(code, p), value(code, q)),
+        },
+        Found::Missing => TwoPriced(value(code, p), value(code, q)),
     }
 }
 

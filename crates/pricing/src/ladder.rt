@@ -45,3 +45,28 @@ pub(crate) fn bracket_at(coupon: u64, halves: u64, p: u64) -> u64
     }
     coupon * sum + 100 * v
 }
+
+// A number for each of two prices.
+pub struct Two(pub u64, pub u64);
+
+// The brackets of a bond at two prices. The two ladders are climbed side by side, so that neither waits for the other.
+pub(crate) fn brackets_at(coupon: u64, halves: u64, p: u64, q: u64) -> Two
+    requires { ⌜ (coupon ≤ 3) × (1 ≤ halves) × (halves ≤ 40) × (p ≤ priceLimit) × (q ≤ priceLimit) ⌝ }
+    ensures { λ r. ⌜ (r .0 ≡ bracket scale coupon halves (bondDivisor p)) × (r .1 ≡ bracket scale coupon halves (bondDivisor q)) ⌝ }
+{
+    let first = numbers::nearest(BASE * SCALE, divisor(p));
+    let other = numbers::nearest(BASE * SCALE, divisor(q));
+    let mut v = first;
+    let mut w = other;
+    let mut sum = first;
+    let mut total = other;
+    let mut k = 1;
+    while k < halves {
+        v = descaled(v * first);
+        w = descaled(w * other);
+        sum += v;
+        total += w;
+        k += 1;
+    }
+    Two(coupon * sum + 100 * v, coupon * total + 100 * w)
+}

@@ -5,8 +5,10 @@ mod products;
 mod values;
 
 pub use contract::Priced;
+pub use contract::TwoPriced;
 pub use contract::bracket;
 pub use contract::tick_value;
+pub use contract::two_values;
 pub use contract::value;
 pub use products::Code;
 pub use products::Currency;

@@ -3,7 +3,9 @@ ghost use mathlib.Core.Path.{_≡_};
 ghost use Prim.Native.Nat.{_≤_};
 ghost use Rattle.pricing.specs.Prices.{priceLimit};
 ghost use Rattle.pricing.specs.Value.{Modest, valueBy};
+use crate::ladder::Two;
 use crate::ladder::bracket_at;
+use crate::ladder::brackets_at;
 use crate::ladder::descaled;
 use crate::products::PAR;
 use crate::products::Terms;
@@ -48,5 +50,29 @@ pub(crate) fn value_at(t: Terms, p: u64) -> u64
             halves,
         } => bond_at(face, coupon, halves, p),
         Terms::CashRate { cents } => cash_at(cents, p),
+    }
+}
+
+fn bonds_at(face: u64, coupon: u64, halves: u64, p: u64, q: u64) -> Two
+    requires { ⌜ Modest (Terms.Bond face coupon halves) × (p ≤ priceLimit) × (q ≤ priceLimit) ⌝ }
+    ensures { λ r. ⌜ (r .0 ≡ valueBy (Terms.Bond face coupon halves) p) × (r .1 ≡ valueBy (Terms.Bond face coupon halves) q) ⌝ }
+{
+    let b = brackets_at(coupon, halves, p, q);
+    Two(descaled(b.0 * face), descaled(b.1 * face))
+}
+
+// The values at two prices.
+pub(crate) fn values_at(t: Terms, p: u64, q: u64) -> Two
+    requires { ⌜ Modest t × (p ≤ priceLimit) × (q ≤ priceLimit) ⌝ }
+    ensures { λ r. ⌜ (r .0 ≡ valueBy t p) × (r .1 ≡ valueBy t q) ⌝ }
+{
+    match t {
+        Terms::Bill { face, days } => Two(bill_at(face, days, p), bill_at(face, days, q)),
+        Terms::Bond {
+            face,
+            coupon,
+            halves,
+        } => bonds_at(face, coupon, halves, p, q),
+        Terms::CashRate { cents } => Two(cash_at(cents, p), cash_at(cents, q)),
     }
 }

@@ -20,5 +20,8 @@ pub mod Changes
 pub mod Sizes
 pub mod Kept
 pub mod Latests
+pub mod Pairs
+pub mod Clashes
+pub mod Told
 pub mod Fields
 pub mod Wall

@@ -41,10 +41,10 @@ pub tick-positive : (a : Code) {o : Found} {q : Product} → o ≡ find a → o 
 tick-positive a e g = pricing.tick-positive a (sym e ∙ g)
 
 -- the same for the value of one contract
-pub by-value : (a : Code) (p : ℕ) {x y : Priced} {n : ℕ} → said x ≡ valueOf a p → x ≡ y → n ≡ orZero (said y) → (n ≡ worthOf a p) × (n ≤ valueCap)
+pub by-value : (a : Code) (p : ℕ) (x : Priced) {n : ℕ} → said x ≡ valueOf a p → n ≡ orZero (said x) → (n ≡ worthOf a p) × (n ≤ valueCap)
 unfolding worthOf
-by-value a p {n = n} e g h =
-    let q : n ≡ orZero (valueOf a p) = rw (← e, g) h in
+by-value a p x {n} e h =
+    let q : n ≡ orZero (valueOf a p) = rw (← e) h in
     (q, rw q (by-answer a p (valueOf a p) refl))
 
 -- what the tests of the product table tell

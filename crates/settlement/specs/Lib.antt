@@ -8,5 +8,6 @@ pub mod Conditions
 pub mod Prices
 pub mod Settling
 pub mod Steps
+pub mod Earlier
 pub mod Resend
 pub mod Making

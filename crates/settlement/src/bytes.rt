@@ -12,7 +12,7 @@ fn wide(x: u8) -> u32
 }
 
 // Four bytes, the lowest first.
-fn join(a: u8, b: u8, c: u8, d: u8) -> u32
+pub(crate) fn join(a: u8, b: u8, c: u8, d: u8) -> u32
     ensures { λ r. ⌜ r ≡ joined a b c d ⌝ }
 {
     wide(a) + 256 * wide(b) + 65_536 * wide(c) + 16_777_216 * wide(d)
@@ -38,9 +38,5 @@ pub(crate) fn u32_at(s: &[u8], i: usize) -> u32
 pub(crate) fn as_signed(u: u32) -> i64
     ensures { λ r. ⌜ r ≡ signed u ⌝ }
 {
-    if u < 2_147_483_648 {
-        u as i64
-    } else {
-        (u as i64) - 4_294_967_296
-    }
+    (std::num::wrapping_add_u32(u, 2_147_483_648) as i64) - 2_147_483_648
 }

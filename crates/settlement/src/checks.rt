@@ -1,4 +1,6 @@
 // The checks over the three lists of records.
+use crate::earlier::earlier;
+use crate::earlier::wide;
 use crate::faults::bad_code;
 use crate::faults::bad_date;
 use crate::faults::bad_lots;
@@ -9,6 +11,7 @@ use crate::faults::no_mark;
 use crate::faults::off_mark;
 use crate::faults::same_contract;
 use crate::faults::same_number;
+use crate::file::DayFile;
 use crate::records::correction_at;
 use crate::records::correction_count;
 use crate::records::mark_at;
@@ -17,8 +20,12 @@ use crate::records::position_at;
 use crate::records::position_count;
 use numbers::Found;
 ghost use mathlib.Core.Path.{_≡_};
-ghost use Rattle.settlement.specs.Records.{listsOf};
-ghost use Rattle.settlement.specs.Checks.{pairing, repeating, ruleOf, findingOf, numberOf, failedAt, thenCheck, verdictOf};
+ghost use mathlib.Core.Bool.{not};
+ghost use lib.Dec.{eqb};
+ghost use Rattle.settlement.specs.Records.{correctionsIn, listsOf};
+ghost use Rattle.settlement.specs.Checks.{pairing, ruleOf, findingOf, numberOf, failedAt, thenCheck, verdictOf};
+ghost use Rattle.settlement.specs.Steps.{Small};
+ghost use Rattle.settlement.specs.Earlier.{clashesBelow, Told, Reached};
 
 // The checks over the records of a section, in their order.
 pub enum Check {
@@ -45,7 +52,7 @@ pub enum Pair {
 }
 
 // Whether records i and k of a section are such a pair.
-fn paired(section: &[u8], p: Pair, i: usize, k: usize) -> bool
+pub(crate) fn paired(section: &[u8], p: Pair, i: usize, k: usize) -> bool
     ensures { λ r. ⌜ r ≡ pairing (now (section .entry)) p i k ⌝ }
 {
     match p {
@@ -55,22 +62,65 @@ fn paired(section: &[u8], p: Pair, i: usize, k: usize) -> bool
     }
 }
 
-// Whether record i of a section makes such a pair with an earlier one.
-pub(crate) fn repeats(section: &[u8], p: Pair, i: usize) -> bool
-    ensures { λ r. ⌜ r ≡ repeating (pairing (now (section .entry)) p) i ⌝ }
+// Whether there is an earlier record, one more than whose index is k.
+pub(crate) fn is_some(k: u16) -> bool
+    ensures { λ r. ⌜ r ≡ not (eqb k 0) ⌝ }
 {
-    let mut k = 0;
-    while k < i {
-        if paired(section, p, i, k) {
-            return true;
-        }
-        k += 1;
+    k != 0
+}
+
+// Whether correction i clashes with the one just below k. Where no correction before i clashes with an earlier one, it is enough to look
+// at the last with the same number.
+fn clashes_below(corrections: &[u8], i: usize, k: usize) -> bool
+    ensures { λ r. ⌜ r ≡ clashesBelow (correctionsIn (now (corrections .entry))) i k ⌝ }
+{
+    if k == 0 {
+        return false;
     }
-    false
+    paired(corrections, Pair::Clash, i, k - 1)
+}
+
+// No earlier records.
+fn none_earlier() -> [u16; DayFile::MAX_POSITIONS] {
+    [0u16; DayFile::MAX_POSITIONS]
+}
+
+// What a check is told of earlier records.
+fn told(
+    marks: &[u8],
+    corrections: &[u8],
+    positions: &[u8],
+    c: Check,
+) -> [u16; DayFile::MAX_POSITIONS]
+    requires { ⌜ Small (listsOf (now marks) (now corrections) (now positions)) ⌝ }
+    ensures { λ r. ⌜ Told (listsOf (now (marks .entry)) (now (corrections .entry)) (now (positions .entry))) c r ⌝ }
+{
+    match c {
+        Check::Code => none_earlier(),
+        Check::Date => none_earlier(),
+        Check::PriceLimit => none_earlier(),
+        Check::Tick => none_earlier(),
+        Check::MarkRepeated => earlier(marks, Pair::Contract, mark_count(marks)),
+        Check::CorrectionMark => none_earlier(),
+        Check::CorrectionPrice => none_earlier(),
+        Check::CorrectionClash => {
+            earlier(corrections, Pair::Number, correction_count(corrections))
+        }
+        Check::PositionMark => none_earlier(),
+        Check::Lots => none_earlier(),
+    }
 }
 
 // Whether the record with index i fails a check.
-fn fails(marks: &[u8], corrections: &[u8], positions: &[u8], c: Check, i: usize) -> bool
+fn fails(
+    marks: &[u8],
+    corrections: &[u8],
+    positions: &[u8],
+    earlier: &[u16; DayFile::MAX_POSITIONS],
+    c: Check,
+    i: usize,
+) -> bool
+    requires { ⌜ Reached (listsOf (now marks) (now corrections) (now positions)) c (now earlier) i ⌝ }
     ensures { λ r. ⌜ r ≡ ruleOf (listsOf (now (marks .entry)) (now (corrections .entry)) (now (positions .entry))) c .test i ⌝ }
 {
     match c {
@@ -78,10 +128,10 @@ fn fails(marks: &[u8], corrections: &[u8], positions: &[u8], c: Check, i: usize)
         Check::Date => bad_date(mark_at(marks, i)),
         Check::PriceLimit => high_mark(mark_at(marks, i)),
         Check::Tick => off_mark(mark_at(marks, i)),
-        Check::MarkRepeated => repeats(marks, Pair::Contract, i),
+        Check::MarkRepeated => is_some(earlier[i]),
         Check::CorrectionMark => no_mark(marks, correction_at(corrections, i).mark),
         Check::CorrectionPrice => correction_off(marks, correction_at(corrections, i)),
-        Check::CorrectionClash => repeats(corrections, Pair::Clash, i),
+        Check::CorrectionClash => clashes_below(corrections, i, wide(earlier[i])),
         Check::PositionMark => no_mark(marks, position_at(positions, i).mark),
         Check::Lots => bad_lots(position_at(positions, i)),
     }
@@ -107,12 +157,14 @@ fn size(marks: &[u8], corrections: &[u8], positions: &[u8], c: Check) -> usize
 
 // The first record that fails a check.
 fn first_failing(marks: &[u8], corrections: &[u8], positions: &[u8], c: Check) -> Found
+    requires { ⌜ Small (listsOf (now marks) (now corrections) (now positions)) ⌝ }
     ensures { λ r. ⌜ r ≡ findingOf (listsOf (now (marks .entry)) (now (corrections .entry)) (now (positions .entry))) c ⌝ }
 {
     let n = size(marks, corrections, positions, c);
+    let earlier = told(marks, corrections, positions, c);
     let mut i = 0;
     while i < n {
-        if fails(marks, corrections, positions, c, i) {
+        if fails(marks, corrections, positions, &earlier, c, i) {
             return Found::At(i);
         }
         i += 1;
@@ -138,6 +190,7 @@ fn failed_at(c: Check, f: Found) -> Verdict
 
 // One check more, where none has failed yet.
 fn then_check(marks: &[u8], corrections: &[u8], positions: &[u8], v: Verdict, c: Check) -> Verdict
+    requires { ⌜ Small (listsOf (now marks) (now corrections) (now positions)) ⌝ }
     ensures { λ r. ⌜ r ≡ thenCheck (listsOf (now (marks .entry)) (now (corrections .entry)) (now (positions .entry))) v c ⌝ }
 {
     match v {
@@ -148,6 +201,7 @@ fn then_check(marks: &[u8], corrections: &[u8], positions: &[u8], v: Verdict, c:
 
 // All checks over the records, in their order.
 pub(crate) fn checked(marks: &[u8], corrections: &[u8], positions: &[u8]) -> Verdict
+    requires { ⌜ Small (listsOf (now marks) (now corrections) (now positions)) ⌝ }
     ensures { λ r. ⌜ r ≡ verdictOf (listsOf (now (marks .entry)) (now (corrections .entry)) (now (positions .entry))) ⌝ }
 {
     let v = then_check(marks, corrections, positions, Verdict::Passed, Check::Code);

@@ -2,6 +2,7 @@
 mod amounts;
 mod bytes;
 mod checks;
+mod earlier;
 mod faults;
 mod file;
 mod prices;

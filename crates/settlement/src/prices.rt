@@ -14,8 +14,8 @@ ghost use lib.IntN.{pos, _-ℤ_};
 ghost use lib.ListN.{length};
 ghost use Rattle.settlement.specs.Limits.{fileLimits};
 ghost use Rattle.settlement.specs.Records.{marksIn, correctionsIn, markAt};
-ghost use Rattle.settlement.specs.Prices.{newerOf, orToday, finalOf, changeOf, valueAt};
 ghost use Rattle.pricing.specs.Value.{valueCap};
+ghost use Rattle.settlement.specs.Prices.{newerOf, orToday, finalOf, changeOf};
 ghost use Rattle.settlement.specs.Steps.{changesOf, EachLatest};
 
 // The highest-numbered correction of a mark so far.
@@ -79,13 +79,6 @@ fn or_today(l: Latest, p: u32) -> u32
     }
 }
 
-// The value of one contract of a mark at a price.
-fn value_at(m: Mark, p: u32) -> u64
-    ensures { λ r. ⌜ (r ≡ valueAt m p) × (r ≤ valueCap) ⌝ }
-{
-    products::value(m.code, p)
-}
-
 // The difference of two values.
 fn difference(a: u64, b: u64) -> i64
     requires { ⌜ (a ≤ valueCap) × (b ≤ valueCap) ⌝ }
@@ -103,7 +96,8 @@ fn change(marks: &[u8], l: Latest, i: usize) -> i64
     if price == m.previous {
         0
     } else {
-        difference(value_at(m, price), value_at(m, m.previous))
+        let v = products::values(m.code, price, m.previous);
+        difference(v.0, v.1)
     }
 }
 

@@ -6,10 +6,12 @@ use pricing::PRICE_LIMIT;
 use pricing::Priced;
 use pricing::has_month;
 use pricing::lookup;
+use pricing::two_values;
 ghost use mathlib.Core.Path.{_≡_};
 ghost use Prim.Native.Nat.{_<_, _≤_};
-ghost use Rattle.settlement.specs.Products.{aboveLimit, listed, quoted, tickOf, currencyOf, worthOf};
+ghost use Rattle.pricing.specs.Calls.{said};
 ghost use Rattle.pricing.specs.Value.{valueCap};
+ghost use Rattle.settlement.specs.Products.{aboveLimit, listed, quoted, tickOf, currencyOf, orZero, worthOf};
 
 // Whether a price is above the highest one.
 pub(crate) fn above_limit(p: u32) -> bool
@@ -61,12 +63,25 @@ pub fn currency_of(code: Code) -> Currency
     }
 }
 
-// The value of one contract, 0 where the call is refused.
-pub(crate) fn value(code: Code, p: u32) -> u64
-    ensures { λ r. ⌜ (r ≡ worthOf code p) × (r ≤ valueCap) ⌝ }
+// The number of an answer, 0 where the call is refused.
+fn or_zero(a: Priced) -> u64
+    ensures { λ r. ⌜ r ≡ orZero (said a) ⌝ }
 {
-    match pricing::value(code, p) {
+    match a {
         Priced::Given(n) => n,
         Priced::Refused(_) => 0,
     }
+}
+
+// A number for each of two prices.
+pub struct Worths(pub u64, pub u64);
+
+// The values of one contract at two prices, 0 where the call is refused.
+pub(crate) fn values(code: Code, p: u32, q: u32) -> Worths
+    ensures { λ r. ⌜ ((r .0 ≡ worthOf code p) × (r .0 ≤ valueCap)) × ((r .1 ≡ worthOf code q) × (r .1 ≤ valueCap)) ⌝ }
+{
+    let v = two_values(code, p, q);
+    let a = v.0;
+    let b = v.1;
+    Worths(or_zero(a), or_zero(b))
 }

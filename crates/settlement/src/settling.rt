@@ -4,8 +4,9 @@ use crate::amounts::total;
 use crate::checks::Pair;
 use crate::checks::Verdict;
 use crate::checks::checked;
+use crate::checks::is_some;
 use crate::checks::number;
-use crate::checks::repeats;
+use crate::earlier::earlier;
 use crate::file::DayFile;
 use crate::file::Opened;
 use crate::file::open_file;
@@ -51,13 +52,15 @@ fn one_if(b: bool) -> usize
 
 // How many corrections bear a number that an earlier one bears.
 fn resent_count(corrections: &[u8]) -> usize
+    requires { ⌜ length (correctionsIn (now corrections)) ≤ fileLimits .corrections ⌝ }
     ensures { λ r. ⌜ r ≡ resentOf (correctionsIn (now (corrections .entry))) ⌝ }
 {
     let n = correction_count(corrections);
+    let found = earlier(corrections, Pair::Number, n);
     let mut t = 0;
     let mut i = 0;
     while i < n {
-        t += one_if(repeats(corrections, Pair::Number, i));
+        t += one_if(is_some(found[i]));
         i += 1;
     }
     t

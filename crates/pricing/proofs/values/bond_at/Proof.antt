@@ -1,23 +1,16 @@
 -- `bond_at` meets its contract.
-use Prim.Native.Nat.{_*_, _≤_}
-use native.Mathlib.Nat.{mul-le-mul}
 use native.Mathlib.Omega.{arith}
 use borrow.Author.Needs.{needs}
 use Rattle.pricing.specs.Value.{valueBy}
-use Rattle.pricing.proofs.Bounds.{bracket-cap}
+use Rattle.pricing.proofs.Climbing.{face-low}
 use Rattle.pricing.proofs.values.bond_at.Statement.{statement}
 use Rattle.pricing.proofs.values.bond_at.Tie as tie
 
-product-low : (c : tie.After-bracket-at) → c .bracket-at .result * c .before .args .face ≤ 440_000_000_000 * 100_000
-product-low c =
-    let (m, h) = c .before .pre in
-    mul-le-mul {n₂ = 440_000_000_000} (rw (c .bracket-at .ensures) (bracket-cap h (m .1) (m .3))) (m .0)
-
 mul-descaled : tie.Need-mul-descaled
-mul-descaled c = omega (arith, product-low c)
+mul-descaled c = omega (arith, face-low (c .before .pre .0) (c .before .pre .1) (c .bracket-at .ensures))
 
 descaled-requires : tie.Need-descaled-requires
-descaled-requires c κs = omega (arith, product-low c)
+descaled-requires c κs = omega (arith, face-low (c .before .pre .0) (c .before .pre .1) (c .bracket-at .ensures))
 
 returns : tie.Need-returns
 unfolding valueBy

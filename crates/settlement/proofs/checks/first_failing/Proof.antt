@@ -12,45 +12,46 @@ use Rattle.settlement.proofs.checks.first_failing.Statement.{statement}
 use Rattle.settlement.proofs.checks.first_failing.Tie as tie
 
 abbrev Inv-loop : tie.InvT-loop
-Inv-loop marks corrections positions c n i₀ i = (i ≤ n) × (first (ruleOf (listsOf marks corrections positions) c .test) i ≡ Nothing)
+Inv-loop marks corrections positions c n earlier i₀ i = (i ≤ n) × (first (ruleOf (listsOf marks corrections positions) c .test) i ≡ Nothing)
 
 abbrev μ-loop : tie.MeasureT-loop
-μ-loop marks corrections positions c n i₀ i = n - i
+μ-loop marks corrections positions c n earlier i₀ i = n - i
 
-size-requires : tie.Need-size-requires Inv-loop μ-loop
-size-requires c κs =
-    search needs
+told-requires : tie.Need-told-requires Inv-loop μ-loop
+told-requires c κs = c .before .before .before .before .pre
 
 loop-holds : tie.Need-loop-holds Inv-loop μ-loop
-loop-holds c =
-    (search needs, first-none _)
+loop-holds c = (search needs, first-none _)
 
 fails-requires : tie.Need-fails-requires Inv-loop μ-loop
 fails-requires c κs =
-    search needs
+    let at = c .before .before .loop in
+    record {
+      small = c .before .before .before .before .before .before .before .before .pre;
+      inside = rw (← c .before .before .before .before .size .ensures) (c .before .loop-test .taken);
+      before = at .inv .1;
+      told = c .before .before .before .told .ensures;
+    }
 
 returns : tie.Need-returns Inv-loop μ-loop
 returns c =
-    let at = c .before .before .before .loop in
-    rw (← c .before .before .before .before .size .ensures)
-    (sym (first-here _ _ (at .i) (c .before .before .loop-test .taken) (at .inv .1) (c .before .fails .ensures) (c .if1 .taken)))
+    let at = c .before .before .before .before .loop in
+    rw (← c .before .before .before .before .before .before .size .ensures)
+    (sym (first-here _ _ (at .i) (c .before .before .before .loop-test .taken) (at .inv .1) (c .before .fails .ensures) (c .if1 .taken)))
 
 add-i : tie.Need-add-i Inv-loop μ-loop
-add-i c =
-    omega arith
+add-i c = omega arith
 
 loop-less : tie.Need-loop-less Inv-loop μ-loop
-loop-less c =
-    omega arith
+loop-less c = omega arith
 
 loop-again : tie.Need-loop-again Inv-loop μ-loop
-loop-again c =
-    (omega arith, first-more _ _ (c .before .before .before .loop .inv .1) (c .before .fails .ensures) (c .if1 .left))
+loop-again c = (omega arith, first-more _ _ (c .before .before .before .before .loop .inv .1) (c .before .fails .ensures) (c .if1 .left))
 
 returns-2 : tie.Need-returns-2 Inv-loop μ-loop
 returns-2 c =
     let at = c .before .loop in
-    rw (← c .before .before .size .ensures) (at-end (first _) (sym (at .inv .1)) (at .inv .0) (c .loop-test .left))
+    rw (← c .before .before .before .size .ensures) (at-end (first _) (sym (at .inv .1)) (at .inv .0) (c .loop-test .left))
 
 pub first-failing-spec : {M : Type 1} → statement M
 first-failing-spec =
@@ -58,7 +59,8 @@ first-failing-spec =
     (tie.spec
     Inv-loop
     μ-loop
-    size-requires
+    (λ c κs. search needs)
+    told-requires
     loop-holds
     fails-requires
     returns

@@ -16,15 +16,15 @@ returns c =
 
 returns-2 : tie.Need-returns-2
 returns-2 c =
-    let b = c .before .before .before .before .before in
+    let b = c .before .before .before .before in
     let a = b .before .before .before .args in
-    change-by _ _ _ (back (c .difference .result) (c .difference .ok) ∙ c .difference .ensures) (c .before .before .value-at .ensures .0) (c .before .value-at2 .ensures .0) (by-one (λ (m : Mark). orToday (a .l) (m .today)) (b .or-today .ensures) (b .before .mark-at .ensures)) (b .before .mark-at .ensures)
+    let v = c .before .values .ensures in
+    change-by _ _ _ (back (c .difference .result) (c .difference .ok) ∙ c .difference .ensures) (v .0 .0) (v .1 .0) (by-one (λ (m : Mark). orToday (a .l) (m .today)) (b .or-today .ensures) (b .before .mark-at .ensures)) (b .before .mark-at .ensures)
 
 pub change-spec : {M : Type 1} → statement M
 change-spec =
     tie.close
     (tie.spec
-    (λ c κs. search needs)
     (λ c κs. search needs)
     (λ c κs. search needs)
     (λ c κs. search needs)

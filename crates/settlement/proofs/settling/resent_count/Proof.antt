@@ -6,51 +6,46 @@ use Rattle.numbers.specs.Folds.{count}
 use Rattle.settlement.specs.Records.{correctionsIn}
 use Rattle.settlement.specs.Checks.{numberPair, repeating}
 use Rattle.numbers.proofs.Chain.{at-end}
+use Rattle.settlement.proofs.Told.{repeats-told}
 use borrow.Author.Needs.{needs}
 use Rattle.settlement.proofs.settling.resent_count.Statement.{statement}
 use Rattle.settlement.proofs.settling.resent_count.Tie as tie
 
 abbrev Inv-loop : tie.InvT-loop
-Inv-loop corrections n t₀ i₀ t i = ((i ≤ n) × (t ≤ i)) × (t ≡ count (repeating (numberPair (correctionsIn corrections))) i)
+Inv-loop corrections n found t₀ i₀ t i = ((i ≤ n) × (t ≤ i)) × (t ≡ count (repeating (numberPair (correctionsIn corrections))) i)
 
 abbrev μ-loop : tie.MeasureT-loop
-μ-loop corrections n t₀ i₀ t i = n - i
+μ-loop corrections n found t₀ i₀ t i = n - i
 
-correction-count-requires : tie.Need-correction-count-requires Inv-loop μ-loop
-correction-count-requires c κs =
-    search needs
+earlier-requires : tie.Need-earlier-requires Inv-loop μ-loop
+earlier-requires c κs = omega (arith, c .correction-count .ensures, c .before .before .pre)
 
 loop-holds : tie.Need-loop-holds Inv-loop μ-loop
-loop-holds c =
-    (search needs, refl)
+loop-holds c = (search needs, refl)
 
-repeats-requires : tie.Need-repeats-requires Inv-loop μ-loop
-repeats-requires c κs =
-    search needs
+mul-is-some : tie.Need-mul-is-some Inv-loop μ-loop
+mul-is-some c = omega (arith, c .before .before .before .correction-count .ensures, c .before .before .before .before .before .pre)
 
-one-if-requires : tie.Need-one-if-requires Inv-loop μ-loop
-one-if-requires c κs =
-    search needs
+array-read-is-some : tie.Need-array-read-is-some Inv-loop μ-loop
+array-read-is-some c = omega (arith, c .before .before .before .correction-count .ensures, c .before .before .before .before .before .pre)
 
 add-t : tie.Need-add-t Inv-loop μ-loop
-add-t c =
-    omega arith
+add-t c = omega arith
 
 add-i : tie.Need-add-i Inv-loop μ-loop
-add-i c =
-    omega arith
+add-i c = omega arith
 
 loop-less : tie.Need-loop-less Inv-loop μ-loop
-loop-less c =
-    omega arith
+loop-less c = omega arith
 
 loop-again : tie.Need-loop-again Inv-loop μ-loop
 loop-again c =
-    (omega arith, rw (add-one, c .one-if .ensures .0, c .before .repeats .ensures, c .before .before .before .loop .inv .1))
+    let at = c .before .before .before .loop in
+    let a = c .before .before .before .before .before .before .before .args in
+    (omega arith, rw (add-one, c .one-if .ensures .0, repeats-told (numberPair (correctionsIn (a .corrections .now))) (c .before .before .before .before .earlier .ensures) (c .before .before .loop-test .taken) (c .before .is-some .ensures), at .inv .1))
 
 returns : tie.Need-returns Inv-loop μ-loop
-returns c =
-    rw (← c .before .before .correction-count .ensures) (at-end (count _) (c .before .loop .inv .1) (c .before .loop .inv .0 .0) (c .loop-test .left))
+returns c = rw (← c .before .before .before .correction-count .ensures) (at-end (count _) (c .before .loop .inv .1) (c .before .loop .inv .0 .0) (c .loop-test .left))
 
 pub resent-count-spec : {M : Type 1} → statement M
 resent-count-spec =
@@ -58,10 +53,13 @@ resent-count-spec =
     (tie.spec
     Inv-loop
     μ-loop
-    correction-count-requires
+    (λ c κs. search needs)
+    earlier-requires
     loop-holds
-    repeats-requires
-    one-if-requires
+    mul-is-some
+    array-read-is-some
+    (λ c κs. search needs)
+    (λ c κs. search needs)
     add-t
     add-i
     loop-less

@@ -1,0 +1,42 @@
+-- The laws of lists that hold a function's values in their first places.
+use mathlib.Core.Path.{_≡_, refl, sym, _∙_}
+use mathlib.Core.Bool.{Bool, true, false}
+use mathlib.Core.List.{List}
+use mathlib.Core.Logic.{⊎-elim}
+use Prim.Native.Nat.{ℕ, _+_, _<_, _≤_}
+use native.Mathlib.Nat.{not-suc-le-zero, eq-or-lt-of-le, le-of-suc-le-suc}
+use native.Mathlib.Numerals.{add-one}
+use native.Mathlib.Omega.{arith}
+use lib.Dec.{eqb}
+use lib.ListN.{length, getD, set, replicate, getD-replicate}
+use lib.Seq.{getD-set-same, getD-set-other}
+use borrow.Author.Tests.{eqb-true, eqb-false}
+use Rattle.numbers.specs.Folds.{Holds}
+
+module _ {A : Type 0} {d : A} where
+  pub holds-none : {f : ℕ → A} {r : List A} → Holds d f 0 r
+  holds-none = record { entry = λ i h. absurd (not-suc-le-zero h) }
+
+  -- one value in every place
+  pub holds-all : {f : ℕ → A} (n : ℕ) (v : A) → ((i : ℕ) → v ≡ f i) → Holds d f n (replicate n v)
+  holds-all n v e = record { entry = λ i h. getD-replicate n i v d h ∙ e i }
+
+  pub holds-less : {f : ℕ → A} {m n : ℕ} {r : List A} → m ≤ n → Holds d f n r → Holds d f m r
+  holds-less le a = record { entry = λ i h. a .entry i (omega arith) }
+
+  -- one store more
+  pub holds-more : {f : ℕ → A} {n : ℕ} {v : A} {r : List A} → n < length r → v ≡ f n → Holds d f n r → Holds d f (n + 1) (set r n v)
+  holds-more {f} {n} {v} {r} h e a = record { entry = go }
+    where
+      go : (i : ℕ) → i < n + 1 → getD (set r n v) i d ≡ f i
+      go i l =
+          ⊎-elim (λ (q : i ≡ n). rw q (getD-set-same r n v d h ∙ e))
+          (λ (q : i < n). getD-set-other r n i v d (λ w. omega arith) ∙ a .entry i q) (eq-or-lt-of-le (le-of-suc-le-suc (rw add-one at l)))
+
+  -- a store that changes one value
+  pub holds-set : {f g : ℕ → A} {n b : ℕ} {v : A} {r : List A} → b < length r → v ≡ g b → ((i : ℕ) → (i ≡ b → ⊥) → g i ≡ f i) → Holds d f n r → Holds d g n (set r b v)
+  holds-set {f} {g} {n} {b} {v} {r} h e keep a = record { entry = λ i l. go i l (eqb i b) refl }
+    where
+      go : (i : ℕ) → i < n → (t : Bool) → eqb i b ≡ t → getD (set r b v) i d ≡ g i
+      go i l true p = rw (eqb-true i b p) (getD-set-same r b v d h ∙ e)
+      go i l false p = getD-set-other r b i v d (eqb-false i b p) ∙ a .entry i l ∙ sym (keep i (eqb-false i b p))

@@ -1,0 +1,64 @@
+-- How the code finds the last earlier record that makes a pair with a record: among those of its bucket. No statement about a file rests on
+-- this: records that make a pair have the same key, and two keys may share a bucket.
+use mathlib.Core.Path.{_≡_}
+use Prim.Native.Nat.{ℕ, zero, suc, _*_, _/_, _%_, _<_}
+use mathlib.Core.Bool.{Bool, false}
+use mathlib.Core.List.{List}
+use lib.ListN.{length}
+use Rattle.numbers.specs.Folds.{first, last, Holds}
+use Rattle.numbers.specs.Bytes.{joined}
+use Rattle.settlement.specs.Records.{Lists, marksIn, correctionsIn, markAt, correctionAt}
+use Rattle.settlement.specs.Checks.{contractPair, clashPair, numberPair, pairing, ruleOf}
+use Rattle.settlement.specs.Steps.{Small}
+use Rattle.settlement.specs.declared.records.Mark.{Mark}
+use Rattle.settlement.specs.declared.records.Correction.{Correction}
+use Rattle.settlement.specs.declared.checks.Check.{Check}
+use Rattle.settlement.specs.declared.checks.Check.the-variants as check
+use Rattle.numbers.specs.declared.Found.the-variants.{Nothing}
+use Rattle.settlement.specs.declared.checks.Pair.{Pair}
+use Rattle.settlement.specs.declared.checks.Pair.the-variants.{Contract, Clash, Number}
+
+-- one of 4,096 buckets for a key: the twelve highest of the 32 low bits of a product
+unfoldable pub scattered : ℕ → ℕ
+scattered key = key * 2_654_435_761 / 1_048_576 % 4_096
+
+abbrev pub contractKey : Mark → ℕ
+contractKey m = joined (m .code .0) (m .code .1) (m .month) (m .year)
+
+-- what records share that make a pair
+abbrev pub keyOf : List ℕ → Pair → ℕ → ℕ
+keyOf s Contract i = contractKey (markAt (marksIn s) i)
+keyOf s Clash i = correctionAt (correctionsIn s) i .number
+keyOf s Number i = correctionAt (correctionsIn s) i .number
+
+abbrev pub bucketOf : List ℕ → Pair → ℕ → ℕ
+bucketOf s p i = scattered (keyOf s p i)
+
+-- one more than the index of the last earlier record that makes a pair with record i, or 0
+abbrev pub earlierOf : List ℕ → Pair → ℕ → ℕ
+earlierOf s p i = last (pairing s p i) i
+
+-- correction i clashes with the one just below k
+unfoldable pub clashesBelow : List Correction → ℕ → ℕ → Bool
+clashesBelow cs i zero = false
+clashesBelow cs i (suc j) = clashPair cs i j
+
+-- what a check is told of earlier records: for 8 the last that makes a pair with each, for 11 the last with the same number
+abbrev pub Told : Lists → Check → List ℕ → Type 0
+Told l check.Code e = Unit {0}
+Told l check.Date e = Unit {0}
+Told l check.PriceLimit e = Unit {0}
+Told l check.Tick e = Unit {0}
+Told l check.MarkRepeated e = Holds 0 (λ i. last (contractPair (l .marks) i) i) (length (l .marks)) e
+Told l check.CorrectionMark e = Unit {0}
+Told l check.CorrectionPrice e = Unit {0}
+Told l check.CorrectionClash e = Holds 0 (λ i. last (numberPair (l .corrections) i) i) (length (l .corrections)) e
+Told l check.PositionMark e = Unit {0}
+Told l check.Lots e = Unit {0}
+
+-- a check comes to record i, and no record before it has failed
+pub record Reached (l : Lists) (c : Check) (e : List ℕ) (i : ℕ) : Type 0 where
+  pub small : Small l
+  pub inside : i < ruleOf l c .size
+  pub before : first (ruleOf l c .test) i ≡ Nothing
+  pub told : Told l c e
