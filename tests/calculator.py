@@ -50,17 +50,22 @@ class Product:
     """A line of the product table, with the accuracy figure in thousandths of a cent for each lot."""
 
     terms: object
+    currency: str
     tick: int
+    months: tuple
     accuracy: int
 
 
+QUARTERS = (3, 6, 9, 12)
+EVERY_MONTH = tuple(range(1, 13))
+
 PRODUCTS = {
-    b"IR": Product(Bill(1_000_000, 90), 100, 1_000),
-    b"BB": Product(Bill(1_000_000, 90), 100, 1_000),
-    b"IB": Product(CashRate(2_466), 50, 0),
-    b"YT": Product(Bond(100_000, 3, 6), 50, 2_208),
-    b"XT": Product(Bond(100_000, 3, 20), 50, 6_100),
-    b"XX": Product(Bond(50_000, 2, 40), 50, 6_550),
+    b"IR": Product(Bill(1_000_000, 90), "AUD", 100, QUARTERS, 1_000),
+    b"BB": Product(Bill(1_000_000, 90), "NZD", 100, QUARTERS, 1_000),
+    b"IB": Product(CashRate(2_466), "AUD", 50, EVERY_MONTH, 0),
+    b"YT": Product(Bond(100_000, 3, 6), "AUD", 50, QUARTERS, 2_208),
+    b"XT": Product(Bond(100_000, 3, 20), "AUD", 50, QUARTERS, 6_100),
+    b"XX": Product(Bond(50_000, 2, 40), "AUD", 50, QUARTERS, 6_550),
 }
 
 

@@ -1,6 +1,5 @@
 -- Integers as differences of two naturals: an integer expression is read off as a pair of natural ones, and what is left is arithmetic of
 -- naturals, which omega does.
--- Assumes nothing.
 use mathlib.Core.Path.{_≡_, ap}
 use mathlib.Core.Bool.{Bool, true, false, not, cond}
 use Prim.Native.Nat.{ℕ, zero, suc, _+_, _*_, _-_, _≤_, _<_}

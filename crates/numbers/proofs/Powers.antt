@@ -1,9 +1,8 @@
 -- Laws of powers.
 use mathlib.Core.Path.{_≡_}
-use Prim.Native.Nat.{ℕ, zero, suc, _+_, _*_, _^_, _≤_, _<_}
-use native.Mathlib.Nat.{mul-le-mul-left, mul-le-mul, pow-suc, pow-zero, pow-le-pow-left, one-le-pow, le-of-mul-le-mul-right}
+use Prim.Native.Nat.{ℕ, zero, suc, _*_, _^_, _≤_}
+use native.Mathlib.Nat.{mul-le-mul, pow-suc, pow-zero}
 use native.Mathlib.Omega.{arith}
-use lib.Pow.{pow-add}
 
 pub pow-one : (x : ℕ) → x ^ 1 ≡ x
 pow-one x = rw (pow-suc x 0, pow-zero) (omega arith)
@@ -21,10 +20,3 @@ pub pow-product : (a s q r k : ℕ) → a * s ≤ q * r → a ^ k * s ^ k ≤ q 
 pow-product a s q r zero h = rw (pow-zero a, pow-zero s, pow-zero q, pow-zero r) (omega arith)
 pow-product a s q r (suc k) h =
     rw (pow-both a s k k, pow-both q r k k) (omega (arith, mul-le-mul (pow-product a s q r k h) h))
-
--- where r / s is at least 1, growth that stays below 3 / 2 over k + i steps does so over k
-pub growth-below : (r s k i : ℕ) → 0 < s → s ≤ r → 2 * r ^ (k + i) ≤ 3 * s ^ (k + i) → 2 * r ^ k ≤ 3 * s ^ k
-growth-below r s k i pos sr h =
-    le-of-mul-le-mul-right {m = 2 * r ^ k} {n = 3 * s ^ k} {k = s ^ i}
-    (omega (arith, rw (pow-add r k i, pow-add s k i) at h, mul-le-mul-left (2 * r ^ k) (pow-le-pow-left sr i)))
-    (one-le-pow i s pos)

@@ -19,6 +19,23 @@ pub record Tells (b : Bool) (A : Type 0) : Type 0 where
 pub not-both : {A : Type 0} {b : Bool} → b ≡ true → b ≡ false → A
 not-both p q = absurd (let z : _≡_ {A = ℕ} 0 1 = (let w : true ≡ false = sym p ∙ q in cc) in omega arith)
 
+-- both of two tests, and neither
+pub and-left : (a b : Bool) → (a && b) ≡ true → a ≡ true
+and-left true b e = refl
+and-left false b e = e
+
+pub and-right : (a b : Bool) → (a && b) ≡ true → b ≡ true
+and-right true b e = e
+and-right false b e = not-both e refl
+
+pub or-left : (a b : Bool) → (a || b) ≡ false → a ≡ false
+or-left true b e = e
+or-left false b e = refl
+
+pub or-right : (a b : Bool) → (a || b) ≡ false → b ≡ false
+or-right true b e = not-both refl e
+or-right false b e = e
+
 -- a test of what holds
 pub told : (b : Bool) {A : Type 0} → Tells b A → A → b ≡ true
 told true t a = refl

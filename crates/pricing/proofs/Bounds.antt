@@ -7,7 +7,7 @@ use Rattle.numbers.specs.Rounding.{nearest}
 use Rattle.numbers.proofs.Rounding.{nearest-mono}
 use Rattle.pricing.specs.Prices.{par, priceLimit, yieldAt}
 use Rattle.pricing.specs.Ladder.{base, firstFactor, factor, annuity, bracket}
-use Rattle.pricing.specs.Value.{scale, billDividend, billDivisor, bondDivisor, valueBy, Modest}
+use Rattle.pricing.specs.Value.{scale, billDividend, billDivisor, bondDivisor, valueBy, Modest, valueCap}
 use Rattle.pricing.specs.declared.products.Terms.{Terms}
 use Rattle.pricing.specs.declared.products.Terms.the-variants.{Bill, Bond, CashRate}
 use Rattle.pricing.proofs.Factors.{first-below, factor-below, annuity-below}
@@ -56,7 +56,7 @@ steps-fit-by {p} h (Bond face c n) s = (
 steps-fit-by {p} h (CashRate cents) s = omega (arith, mul-le-mul s h)
 
 -- no value is above 500,000,000 cents
-pub value-by-cap : {p : ℕ} → p ≤ priceLimit → (t : Terms) → Modest t → valueBy t p ≤ 500_000_000
+pub value-by-cap : {p : ℕ} → p ≤ priceLimit → (t : Terms) → Modest t → valueBy t p ≤ valueCap
 unfolding valueBy billDividend billDivisor yieldAt par priceLimit scale nearest
 value-by-cap {p} h (Bill face days) s =
     le-trans (nearest-mono (billDividend face) (1_000_000 * 100 * 365 * 1_000_000) 365_000_000 (billDivisor days p) (lit< tt) (omega (arith, s .0)) (omega arith)) (lit≤ tt)

@@ -1,14 +1,13 @@
 -- How far the ladder's bracket lies from the exact one.
 use mathlib.Core.Path.{_≡_, refl}
 use Prim.Native.Nat.{ℕ, zero, suc, _+_, _*_, _-_, _^_, _≤_, _<_}
-use native.Mathlib.Nat.{mul-le-mul-left, pow-suc, pow-zero, pow-le-pow-left, one-le-pow, le-of-mul-le-mul-left}
+use native.Mathlib.Nat.{mul-le-mul-left, pow-suc, pow-zero, pow-le-pow-left}
 use native.Mathlib.Omega.{arith}
-use lib.Dec.{lit≤}
 use Rattle.numbers.specs.Rounding.{nearest}
 use Rattle.numbers.specs.Nearness.{Near}
-use Rattle.numbers.proofs.Rounding.{nearest-near, nearest-mono}
+use Rattle.numbers.proofs.Rounding.{nearest-near}
 use Rattle.numbers.proofs.Nearness.{near-scale, near-cancel, near-add, near-as, near-then}
-use Rattle.numbers.proofs.Powers.{pow-one, one-pow, pow-both, pow-product, growth-below}
+use Rattle.numbers.proofs.Powers.{pow-one, one-pow, pow-both, pow-product}
 use Rattle.pricing.specs.Ladder.{base, firstFactor, factor, annuity, bracket, wholeAnnuity, wholeBracket}
 use Rattle.pricing.proofs.Factors.{factor-first, factor-next, annuity-none, annuity-next, whole-none, whole-next, first-below}
 
@@ -73,7 +72,7 @@ module _ (D q r s : ℕ) (pos : 0 < D) (posq : 0 < q) (sr : s ≤ r) (hv : first
       (nearest-near (base * D) q posq) hv (powers-low k) (powers-high k) (factor-near k) (nearest-near (factor D q (suc k) * firstFactor D q) D pos))
       refl refl (omega arith))
 
-  -- the sum of n + 1 rungs
+  -- the sum of k + 1 factors
   annuity-near : (k : ℕ) → Near (2 * (annuity D q (suc k) * (q ^ suc k * s ^ k))) (2 * (D * (wholeAnnuity q (suc k) * s ^ k))) (suc k * suc k * (q ^ suc k * r ^ k))
   annuity-near zero =
       rw (annuity-next D q 0, whole-next q 0, annuity-none D q, whole-none q)
@@ -103,7 +102,7 @@ module _ (D q r s : ℕ) (pos : 0 < D) (posq : 0 < q) (sr : s ≤ r) (hv : first
           e₃ : (x k : ℕ) → x + 200 * suc k - 100 ≡ x + 100 * (2 * k + 1)
           e₃ x k = omega arith
 
--- THE LADDER'S DISTANCE. q is 2,000,000 + Y. Over any scale D, for any n from 1, any coupon c and any yield Y from 0, the ladder's bracket
+-- q is 2,000,000 + Y. Over any scale D, for any n from 1, any coupon c and any yield Y from 0, the ladder's bracket
 -- lies within (c n² + 200 n − 100) / 2 units of the exact one, which is D * wholeBracket / q^n units.
 pub ladder-distance : (D c n q : ℕ) → 0 < D → 1 ≤ n → base ≤ q
     → Near (2 * (bracket D c n q * q ^ n)) (2 * (D * wholeBracket c n q)) ((c * (n * n) + 200 * n - 100) * q ^ n)
@@ -111,47 +110,3 @@ ladder-distance D c zero q hD h hq = absurd (omega arith)
 ladder-distance D c (suc k) q hD h hq =
     near-as (bracket-near D q 1 1 hD (omega arith) (omega arith) (omega (arith, first-below D q hq)) (omega arith) c k)
     (rw one-pow (omega arith)) (rw one-pow (omega arith)) (rw one-pow (omega arith))
-
--- above 100 a power grows by less than 5,051 / 5,000
-first-above : (D q : ℕ) → 10000 ≤ D → 1980000 ≤ q → firstFactor D q * 5000 ≤ D * 5051
-first-above D q hD hq = omega (arith, nearest-mono (base * D) (base * D) 1980000 q (lit≤ tt) (omega arith) hq, nearest-near (base * D) 1980000 (lit≤ tt))
-
--- ABOVE 100: q from 1,980,000 and n to 40. One and a half times the former distance.
-pub ladder-distance-above : (D c n q : ℕ) → 10000 ≤ D → 1 ≤ n → n ≤ 40 → 1980000 ≤ q
-    → Near (4 * (bracket D c n q * q ^ n)) (4 * (D * wholeBracket c n q)) (3 * ((c * (n * n) + 200 * n - 100) * q ^ n))
-ladder-distance-above D c zero q hD h h40 hq = absurd (omega arith)
-ladder-distance-above D c (suc k) q hD h h40 hq =
-    near-cancel (5000 ^ k) (one-le-pow k 5000 (omega arith))
-    (widen (bracket D c (suc k) q) (wholeBracket c (suc k) q) D (q ^ suc k) (5051 ^ k) (5000 ^ k) (c * (suc k * suc k) + 200 * suc k - 100)
-    (growth-below 5051 5000 k (39 - k) (omega arith) (omega arith) (rw (upto k (omega arith)) (lit≤ tt)))
-    (bracket-near D q 5051 5000 (omega arith) (omega arith) (omega arith) (first-above D q hD hq) (omega arith) c k))
-  where
-    upto : (k : ℕ) → k ≤ 39 → k + (39 - k) ≡ 39
-    upto k h = omega arith
-
-    widen : (b x D Q R S e : ℕ) → 2 * R ≤ 3 * S → Near (2 * (b * (Q * S))) (2 * (D * (x * S))) (e * (Q * R))
-        → Near (S * (4 * (b * Q))) (S * (4 * (D * x))) (S * (3 * (e * Q)))
-    widen b x D Q R S e g h = near-as (near-scale 2 h) (omega arith) (omega arith) (omega (arith, mul-le-mul-left (e * Q) g))
-
--- ABOVE 100 no rung outgrows twice the scale
-pub discount-above : (D k q : ℕ) → 10000 ≤ D → k ≤ 39 → 1980000 ≤ q → factor D q (suc k) ≤ 2 * D
-discount-above D k q hD hk hq =
-    small D k (factor D q (suc k)) (5051 ^ k) (5000 ^ k) hD hk (one-le-pow k 5000 (lit≤ tt))
-    (growth-below 5051 5000 k (39 - k) (lit≤ tt) (lit≤ tt) (rw (upto k hk) (lit≤ tt)))
-    (le-of-mul-le-mul-left {m = 2 * factor D q (suc k) * (5000 ^ k * 5000)} {n = 2 * D * (5051 ^ k * 5051) + (2 * k + 1) * (5051 ^ k * 5000)} {k = q ^ suc k}
-    (sized D k (factor D q (suc k)) (base ^ suc k) (q ^ suc k) (5051 ^ k) (5000 ^ k)
-    (factor-near D q 5051 5000 (omega arith) (omega arith) (lit≤ tt) (first-above D q hD hq) (omega arith) k .up)
-    (powers-low D q 5051 5000 (omega arith) (omega arith) (lit≤ tt) (first-above D q hD hq) (omega arith) k))
-    (one-le-pow (suc k) q (omega arith)))
-  where
-    upto : (k : ℕ) → k ≤ 39 → k + (39 - k) ≡ 39
-    upto k h = omega arith
-
-    sized : (D k v P Q R S : ℕ) → 2 * (v * (Q * S)) ≤ 2 * (D * (P * S)) + (2 * k + 1) * (Q * R) → P * S * 5000 ≤ Q * R * 5051
-        → Q * (2 * v * (S * 5000)) ≤ Q * (2 * D * (R * 5051) + (2 * k + 1) * (R * 5000))
-    sized D k v P Q R S h l = omega (arith, mul-le-mul-left 5000 h, mul-le-mul-left (2 * D) l)
-
-    small : (D k v R S : ℕ) → 10000 ≤ D → k ≤ 39 → 0 < S → 2 * R ≤ 3 * S → 2 * v * (S * 5000) ≤ 2 * D * (R * 5051) + (2 * k + 1) * (R * 5000) → v ≤ 2 * D
-    small D k v R S hD hk hS g h =
-        le-of-mul-le-mul-left {m = v} {n = 2 * D} {k = 20000 * S}
-        (omega (arith, h, mul-le-mul-left (2 * D * 5051 + (2 * k + 1) * 5000) g, mul-le-mul-left S hD, mul-le-mul-left S hk)) (omega arith)

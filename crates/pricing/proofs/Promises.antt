@@ -12,7 +12,7 @@ use Rattle.numbers.proofs.Rounding.{nearest-scale}
 use Rattle.pricing.specs.Prices.{priceLimit, yieldAt}
 use Rattle.pricing.specs.Products.{find}
 use Rattle.pricing.specs.Ladder.{base, factor, bracket, exactBracket, wholeBracket}
-use Rattle.pricing.specs.Value.{scale, billDividend, billDivisor, bondDivisor, valueBy, exactOf}
+use Rattle.pricing.specs.Value.{scale, billDividend, billDivisor, bondDivisor, valueBy, exactOf, valueCap}
 use Rattle.pricing.specs.Calls.{given, valueOf, tickValueOf, bracketOf}
 use Rattle.pricing.specs.Conditions.{valueFaults, tickValueFaults, bracketFaults, Exactly}
 use Rattle.pricing.specs.Accuracy.{bracketDistanceOf, accuracyOf}
@@ -117,7 +117,7 @@ pub steps-fit : (code : Code) (p : ℕ) {q : Product} → find code ≡ At q →
 steps-fit code p {q} f h = steps-fit-by h (q .terms) (sound code (sym f) refl .terms)
 
 -- No value is above 500,000,000 cents.
-pub value-cap : (code : Code) (p : ℕ) {n : ℕ} → valueOf code p ≡ given n → n ≤ 500_000_000
+pub value-cap : (code : Code) (p : ℕ) {n : ℕ} → valueOf code p ≡ given n → n ≤ valueCap
 value-cap code p e =
     let h = valued code p e in
     rw (← (h .is)) (value-by-cap (h .listed .within) (h .product .terms) (sound code (sym (h .found)) refl .terms))

@@ -1,7 +1,7 @@
 -- Laws of the product table: what a search finds, and what holds of every line.
 use mathlib.Core.Path.{_≡_, refl, sym, subst, ap₂, _∙_}
 use mathlib.Core.List.{List, [], _∷_, List·Memᴰ, List·Memᴰ·head, List·Memᴰ·tail, List·Memᴰ·not-nil}
-use mathlib.Core.Bool.{Bool, true, false, cond, _&&_}
+use mathlib.Core.Bool.{Bool, true, false, cond}
 use Prim.Native.Nat.{ℕ, _+_, _<_, _≤_}
 use native.Mathlib.Omega.{arith}
 use native.Mathlib.Numerals.{add-one}
@@ -9,6 +9,7 @@ use borrow.Author.Tests.{eqb-true, eq-eqb}
 use lib.Dec.{eqb}
 use lib.ListN.{length, getD, drop}
 use lib.Seq.{drop-cons}
+use Rattle.numbers.proofs.Truth.{and-left, and-right}
 use Rattle.pricing.specs.Products.{products, noProduct, sameCode, findIn, find}
 use Rattle.pricing.specs.Value.{Modest}
 use Rattle.pricing.specs.declared.products.Code.{Code}
@@ -42,15 +43,11 @@ module _ (P : Product → Type 0) {q : Product} where
   of-found (r ∷ qs) a h e = first (sameCode a (r .code)) (h .0) (of-found qs a (h .1)) e
 
 -- what is found bears the code
-both-true : (b d : Bool) → (b && d) ≡ true → (b ≡ true) × (d ≡ true)
-both-true true true e = (refl, refl)
-both-true true false e = absurd (let z : _≡_ {A = ℕ} 0 1 = cc in omega arith)
-both-true false d e = absurd (let z : _≡_ {A = ℕ} 0 1 = cc in omega arith)
-
 same-code : (a b : Code) → sameCode a b ≡ true → a ≡ b
 unfolding sameCode
 same-code a b e =
-    let (f, g) = both-true (eqb (a .0) (b .0)) (eqb (a .1) (b .1)) e in
+    let f = and-left (eqb (a .0) (b .0)) (eqb (a .1) (b .1)) e in
+    let g = and-right (eqb (a .0) (b .0)) (eqb (a .1) (b .1)) e in
     ap₂ (λ (x y : ℕ). record { 0 = x; 1 = y }) (eqb-true _ _ f) (eqb-true _ _ g)
 
 pub same-code-self : (a : Code) → sameCode a a ≡ true

@@ -30,6 +30,6 @@ unfoldable pub accuracyFigures : List Entry
 accuracyFigures =
     entry IB 0 ∷ entry IR 1_000 ∷ entry BB 1_000 ∷ entry YT 2_208 ∷ entry XT 6_100 ∷ entry XX 6_550 ∷ []
 
--- the figure of a product for two prices, the previous and the final one; today it is the same for all
+-- the figure of a product for two prices, the previous and the final one. It goes by the product alone.
 unfoldable pub accuracyOf : Code → ℕ → ℕ → ℕ
 accuracyOf code previous final = numberIn accuracyFigures code

@@ -46,6 +46,10 @@ exactIn Missing p = wholly 0
 unfoldable pub exactOf : Code → ℕ → Fraction
 exactOf code p = exactIn (find code) p
 
+-- no value is above this, in cents (proofs/Promises.antt, value-cap)
+abbrev pub valueCap : ℕ
+valueCap = 500_000_000
+
 -- terms small enough that no step of a value leaves 64 bits
 abbrev pub Modest : Terms → Type 0
 Modest (Bill face days) = (face ≤ 1_000_000) × (days ≤ 100)

@@ -5,7 +5,7 @@ ghost use lib.ListN.{getD};
 ghost use Rattle.pricing.specs.Products.{products, noProduct, sameCode, find, hasMonth};
 
 // The price of yield 0, in units of 0.0001.
-pub const PAR: u64 = 1_000_000;
+pub(crate) const PAR: u64 = 1_000_000;
 
 // The highest price.
 pub const PRICE_LIMIT: u32 = 1_000_000;

@@ -1,6 +1,6 @@
 -- What holds of three lists that passed the checks over their records.
 use mathlib.Core.Path.{_≡_, refl, sym, ap, _∙_}
-use mathlib.Core.Bool.{Bool, true, false, _||_}
+use mathlib.Core.Bool.{false, _||_}
 use mathlib.Core.List.{List, [], _∷_, foldl}
 use Prim.Native.Nat.{ℕ, _≤_, _<_}
 use native.Mathlib.Omega.{arith}
@@ -19,6 +19,7 @@ use Rattle.settlement.specs.declared.checks.Check.{Check}
 use Rattle.settlement.specs.declared.checks.Check.the-variants.{Code, Date, PriceLimit, Tick, MarkRepeated, CorrectionMark, CorrectionPrice, CorrectionClash, PositionMark, Lots}
 use Rattle.settlement.specs.declared.checks.Verdict.{Verdict}
 use Rattle.settlement.specs.declared.checks.Verdict.the-variants.{Passed, Failed}
+use Rattle.numbers.proofs.Truth.{or-left, or-right}
 use Rattle.numbers.proofs.Searches.{first-clear}
 
 -- ---- the checks in order
@@ -71,14 +72,6 @@ module _ (l : Lists) where
       every (c ∷ cs) = (h c, every cs)
 
 -- ---- positions that passed
-
-or-right : (a b : Bool) → (a || b) ≡ false → b ≡ false
-or-right true b e = absurd (let z : _≡_ {A = ℕ} 0 1 = cc in omega arith)
-or-right false b e = e
-
-or-left : (a b : Bool) → (a || b) ≡ false → a ≡ false
-or-left true b e = e
-or-left false b e = refl
 
 lots-bound : (z : ℤ) → (isZero z || ltZ z (negℤ (pos lotsLimit)) || ltZ (pos lotsLimit) z) ≡ false → natAbs z ≤ lotsLimit
 lots-bound (pos n) e = ltb-false lotsLimit n (or-right (isZero (pos n) || ltZ (pos n) (negℤ (pos lotsLimit))) _ e)

@@ -1,23 +1,14 @@
 -- What the tests of the header say of a file.
-use mathlib.Core.Path.{_≡_, refl}
-use mathlib.Core.Bool.{Bool, true, false, _&&_}
+use mathlib.Core.Path.{_≡_}
+use mathlib.Core.Bool.{true, false}
 use mathlib.Core.List.{List}
 use Prim.Native.Nat.{ℕ, _≤_, _<_}
-use native.Mathlib.Omega.{arith}
 use lib.ListN.{length}
 use borrow.Author.Tests.{lt-ltb, le-ltb}
 use Rattle.settlement.specs.Limits.{fileLimits}
 use Rattle.settlement.specs.Layout.{countsOf, withinLimits, asLaidOut, openedOf, headerSize}
 use Rattle.settlement.specs.declared.file.DayFile.{DayFile}
 use Rattle.settlement.specs.declared.file.Opened.the-variants.{File, Refused}
-
-pub left : (a b : Bool) → (a && b) ≡ true → a ≡ true
-left true b e = refl
-left false b e = e
-
-pub right : (a b : Bool) → (a && b) ≡ true → b ≡ true
-right true b e = e
-right false b e = absurd (let z : _≡_ {A = ℕ} 0 1 = cc in omega arith)
 
 module _ (s : List ℕ) {d : DayFile} (h : headerSize ≤ length s) (q : d ≡ countsOf s) where
   pub refused-2 : withinLimits fileLimits d ≡ false → Refused 2 ≡ openedOf fileLimits s

@@ -20,7 +20,7 @@ use Rattle.settlement.specs.declared.file.Opened.{Opened}
 use Rattle.settlement.specs.declared.file.Opened.the-variants.{File, Refused}
 use Rattle.settlement.specs.declared.checks.Verdict.{Verdict}
 use Rattle.settlement.specs.declared.checks.Verdict.the-variants.{Passed, Failed}
-use Rattle.settlement.proofs.Header.{left, right}
+use Rattle.numbers.proofs.Truth.{and-left, and-right}
 
 -- ---- checks 1 to 3
 
@@ -46,18 +46,18 @@ module _ (l : Limits) (f : List ℕ) where
   unfolding countsOf
   laid-of a b c =
       let d = countsOf f in
-      let b′ = left (leb (d .marks) (l .marks) && leb (d .corrections) (l .corrections)) (leb (d .positions) (l .positions)) b in
-      let c′ = left (eqb (u32At f 4) headerSize && eqb (u32At f 12) (correctionsStart d) && eqb (u32At f 20) (positionsStart d)) (eqb (length f) (lengthOf d)) c in
-      let c″ = left (eqb (u32At f 4) headerSize && eqb (u32At f 12) (correctionsStart d)) (eqb (u32At f 20) (positionsStart d)) c′ in
+      let b′ = and-left (leb (d .marks) (l .marks) && leb (d .corrections) (l .corrections)) (leb (d .positions) (l .positions)) b in
+      let c′ = and-left (eqb (u32At f 4) headerSize && eqb (u32At f 12) (correctionsStart d) && eqb (u32At f 20) (positionsStart d)) (eqb (length f) (lengthOf d)) c in
+      let c″ = and-left (eqb (u32At f 4) headerSize && eqb (u32At f 12) (correctionsStart d)) (eqb (u32At f 20) (positionsStart d)) c′ in
       record {
         header = ltb-false _ _ a;
-        marks-fit = leb-true _ _ (left (leb (d .marks) (l .marks)) (leb (d .corrections) (l .corrections)) b′);
-        corrections-fit = leb-true _ _ (right (leb (d .marks) (l .marks)) (leb (d .corrections) (l .corrections)) b′);
-        positions-fit = leb-true _ _ (right (leb (d .marks) (l .marks) && leb (d .corrections) (l .corrections)) (leb (d .positions) (l .positions)) b);
-        marks-at = eqb-true _ _ (left (eqb (u32At f 4) headerSize) (eqb (u32At f 12) (correctionsStart d)) c″);
-        corrections-at = eqb-true _ _ (right (eqb (u32At f 4) headerSize) (eqb (u32At f 12) (correctionsStart d)) c″);
-        positions-at = eqb-true _ _ (right (eqb (u32At f 4) headerSize && eqb (u32At f 12) (correctionsStart d)) (eqb (u32At f 20) (positionsStart d)) c′);
-        ends-at = eqb-true _ _ (right (eqb (u32At f 4) headerSize && eqb (u32At f 12) (correctionsStart d) && eqb (u32At f 20) (positionsStart d)) (eqb (length f) (lengthOf d)) c);
+        marks-fit = leb-true _ _ (and-left (leb (d .marks) (l .marks)) (leb (d .corrections) (l .corrections)) b′);
+        corrections-fit = leb-true _ _ (and-right (leb (d .marks) (l .marks)) (leb (d .corrections) (l .corrections)) b′);
+        positions-fit = leb-true _ _ (and-right (leb (d .marks) (l .marks) && leb (d .corrections) (l .corrections)) (leb (d .positions) (l .positions)) b);
+        marks-at = eqb-true _ _ (and-left (eqb (u32At f 4) headerSize) (eqb (u32At f 12) (correctionsStart d)) c″);
+        corrections-at = eqb-true _ _ (and-right (eqb (u32At f 4) headerSize) (eqb (u32At f 12) (correctionsStart d)) c″);
+        positions-at = eqb-true _ _ (and-right (eqb (u32At f 4) headerSize && eqb (u32At f 12) (correctionsStart d)) (eqb (u32At f 20) (positionsStart d)) c′);
+        ends-at = eqb-true _ _ (and-right (eqb (u32At f 4) headerSize && eqb (u32At f 12) (correctionsStart d) && eqb (u32At f 20) (positionsStart d)) (eqb (length f) (lengthOf d)) c);
       }
 
   pub opens : {d : DayFile} → openedOf l f ≡ File d → Laid l f × (countsOf f ≡ d)

@@ -20,7 +20,7 @@ use Rattle.numbers.specs.Fractions.{_minus_, _times_, Within}
 use Rattle.pricing.specs.Prices.{priceLimit}
 use Rattle.pricing.specs.Value.{exactOf}
 use Rattle.pricing.specs.Accuracy.{accuracyOf}
-use Rattle.settlement.specs.Steps.{valueCap}
+use Rattle.pricing.specs.Value.{valueCap}
 use Rattle.settlement.specs.Products.{orZero, worthOf, listed, listedIn, quoted, quotedIn, tickOf, tickIn}
 use Rattle.settlement.specs.Conditions.{Quoted}
 use Rattle.numbers.proofs.Truth.{Tells, not-both, tells-as, tells-not, tells-divides}

@@ -1,4 +1,4 @@
--- "Sent again" and "brought into line", as the build description has them.
+-- "Sent again" and "brought into line", as document 01 has them.
 use mathlib.Core.Path.{_≡_}
 use mathlib.Core.List.{List, [], _∷_, List·Memᴰ}
 use Prim.Native.Nat.{ℕ, suc, _+_, _*_}

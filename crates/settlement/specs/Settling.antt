@@ -90,11 +90,12 @@ paid l a = front (amountOf (l .positions) (changeIn l)) a (length (l .positions)
 abbrev pub totals : Lists → Answer
 totals l = settled (length (l .positions)) (totalOf (l .marks) (l .positions) (changeIn l) Aud) (totalOf (l .marks) (l .positions) (changeIn l) Nzd) (resentOf (l .corrections))
 
--- check 14, after the checks over the records
+-- what is to be done with three lists
 pub data Plan : Type 0 where
   accept : Lists → Plan
   refuse : ℕ → ℕ → Plan
 
+-- check 14, after the checks over the records
 abbrev pub roomPlan : Lists → ℕ → Plan
 roomPlan l places = cond (ltb places (length (l .positions))) (refuse 14 0) (accept l)
 

@@ -1,4 +1,4 @@
--- What the steps of the settlement ask of each other and give: arrays, sizes, and what was checked before. No caller sees these.
+-- What the steps of the settlement ask of each other and give: arrays, sizes, and what was checked before.
 use mathlib.Core.Path.{_≡_}
 use Prim.Native.Nat.{ℕ, _≤_, _<_}
 use mathlib.Core.Bool.{Bool, cond}
@@ -22,10 +22,6 @@ use Rattle.settlement.specs.declared.prices.Latest.{Latest}
 use Rattle.settlement.specs.declared.prices.Latest.the-variants.{Never}
 use Rattle.settlement.specs.declared.checks.Verdict.the-variants.{Passed}
 use Rattle.settlement.specs.declared.settling.Settlement.{Settlement}
-
--- no value of one contract is above this, in cents
-abbrev pub valueCap : ℕ
-valueCap = 500_000_000
 
 -- no change in value is larger
 abbrev pub changeCap : ℕ

@@ -13,6 +13,7 @@ mod settling;
 pub use file::DayFile;
 pub use file::Opened;
 pub use file::open_file;
+pub use products::currency_of;
 pub use records::Correction;
 pub use records::Mark;
 pub use records::Position;

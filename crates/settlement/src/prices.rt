@@ -14,8 +14,9 @@ ghost use lib.IntN.{pos, _-ℤ_};
 ghost use lib.ListN.{length};
 ghost use Rattle.settlement.specs.Limits.{fileLimits};
 ghost use Rattle.settlement.specs.Records.{marksIn, correctionsIn, markAt};
+ghost use Rattle.pricing.specs.Value.{valueCap};
 ghost use Rattle.settlement.specs.Prices.{newerOf, orToday, finalOf, changeOf};
-ghost use Rattle.settlement.specs.Steps.{valueCap, changesOf, EachLatest};
+ghost use Rattle.settlement.specs.Steps.{changesOf, EachLatest};
 
 // The highest-numbered correction of a mark so far.
 pub enum Latest {

@@ -10,8 +10,8 @@ use pricing::two_values;
 ghost use mathlib.Core.Path.{_≡_};
 ghost use Prim.Native.Nat.{_<_, _≤_};
 ghost use Rattle.pricing.specs.Calls.{said};
+ghost use Rattle.pricing.specs.Value.{valueCap};
 ghost use Rattle.settlement.specs.Products.{aboveLimit, listed, quoted, tickOf, currencyOf, orZero, worthOf};
-ghost use Rattle.settlement.specs.Steps.{valueCap};
 
 // Whether a price is above the highest one.
 pub(crate) fn above_limit(p: u32) -> bool
@@ -51,7 +51,7 @@ pub(crate) fn tick(code: Code) -> u32
 }
 
 // A product's currency, Australian where there is no product.
-pub(crate) fn currency_of(code: Code) -> Currency
+pub fn currency_of(code: Code) -> Currency
     ensures { λ r. ⌜ r ≡ currencyOf code ⌝ }
 {
     match lookup(code) {

@@ -27,7 +27,7 @@ fn mix_answers(h: u64, code: Code, price: u32) -> u64 {
 }
 
 // The digest of a code's answers at the prices from first on, a step apart, up to last.
-pub fn at_prices(code: Code, first: u32, last: u32, step: u32) -> u64
+pub(crate) fn at_prices(code: Code, first: u32, last: u32, step: u32) -> u64
     requires { ⌜ 0 < step ⌝ }
 {
     let mut h = 0;
@@ -40,7 +40,7 @@ pub fn at_prices(code: Code, first: u32, last: u32, step: u32) -> u64
 }
 
 // The digest of the answers for all codes at a price, from two zero bytes to two of 255.
-pub fn over_codes(price: u32) -> u64 {
+pub(crate) fn over_codes(price: u32) -> u64 {
     let mut h = 0;
     for k in 0u32..65_536 {
         h = mix_answers(h, Code((k / 256) as u8, (k % 256) as u8), price);

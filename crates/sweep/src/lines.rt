@@ -41,7 +41,7 @@ fn answers(code: Code, price: u32) {
 }
 
 // A line for each of the prices from first on, a step apart, up to last.
-pub fn at_prices(code: Code, first: u32, last: u32, step: u32)
+pub(crate) fn at_prices(code: Code, first: u32, last: u32, step: u32)
     requires { ⌜ 0 < step ⌝ }
 {
     let mut price = first as u64;
@@ -53,7 +53,7 @@ pub fn at_prices(code: Code, first: u32, last: u32, step: u32)
 }
 
 // A line whose code is written as two numbers, since it need not be text.
-pub fn of_bytes(code: Code, price: u32) {
+pub(crate) fn of_bytes(code: Code, price: u32) {
     number(code.0 as u64);
     text(b" ");
     number(code.1 as u64);
@@ -61,7 +61,7 @@ pub fn of_bytes(code: Code, price: u32) {
 }
 
 // A digest of answers for one code. The label says at which prices.
-pub fn digest(code: Code, label: &[u8], h: u64) {
+pub(crate) fn digest(code: Code, label: &[u8], h: u64) {
     letters(code);
     text(label);
     number(h);
@@ -69,7 +69,7 @@ pub fn digest(code: Code, label: &[u8], h: u64) {
 }
 
 // A digest of the answers for all codes at a price.
-pub fn all_codes(price: u32, h: u64) {
+pub(crate) fn all_codes(price: u32, h: u64) {
     text(b"all codes ");
     number(price as u64);
     text(b" digest ");

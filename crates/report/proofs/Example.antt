@@ -1,0 +1,36 @@
+-- Document 01's case: the file of 84 bytes prints its five lines.
+use mathlib.Core.Path.{_≡_, refl}
+use mathlib.Core.List.{List, _++_}
+use Prim.Native.Nat.{ℕ}
+use Rattle.numbers.specs.Rounding.{nearest}
+use Rattle.pricing.specs.Prices.{par, priceLimit, yieldAt}
+use Rattle.pricing.specs.Products.{products, sameCode, findIn, find, hasMonth}
+use Rattle.pricing.specs.Value.{billDividend, billDivisor, valueBy}
+use Rattle.pricing.specs.Calls.{judged, valueOf}
+use Rattle.numbers.specs.Bytes.{u32At, u32Bytes, signed, recordsOf}
+use Rattle.numbers.specs.Folds.{first, some}
+use Rattle.settlement.specs.Records.{markAt, correctionAt, positionAt}
+use Rattle.settlement.specs.Products.{listed, quoted, tickOf, currencyOf, worthOf}
+use Rattle.settlement.specs.Checks.{verdictOf}
+use Rattle.settlement.specs.Layout.{countsOf, openedOf}
+use Rattle.settlement.specs.Prices.{latestOf, finalOf, changeOf}
+use Rattle.settlement.specs.Settling.{amountOf, totalOf, planOf, answerOf}
+use Rattle.settlement.proofs.Example.{marks, corrections, positions, caseFile}
+use Rattle.text.specs.Ascii.{ascii}
+use Rattle.text.specs.Writing.{texts}
+use Rattle.text.specs.Decimal.{digitsWithin, decimal, signedDecimal}
+use Rattle.report.specs.Lines.{lettersOf, positionLine, totalLine, resentLine, refusalLine}
+use Rattle.report.specs.Sheet.{answerText, positionsText, sheetOf}
+
+pub printed : List ℕ
+printed =
+    ascii "11 IR 3 18 24060 AUD\n"
+    ++ ascii "12 IR 3 18 -9624 AUD\n"
+    ++ ascii "total AUD 14436\n"
+    ++ ascii "total NZD 0\n"
+    ++ ascii "resent 1\n"
+
+-- with room for its amounts, and settled into a slice of one place
+pub case-prints : (sheetOf caseFile 4096 ≡ printed) × (sheetOf caseFile 1 ≡ ascii "refused 14 at 0\n")
+unfolding marks corrections positions caseFile printed nearest par priceLimit yieldAt products sameCode findIn find hasMonth billDividend billDivisor valueBy judged valueOf u32At signed recordsOf first some markAt correctionAt positionAt listed quoted tickOf currencyOf worthOf verdictOf countsOf openedOf latestOf finalOf changeOf amountOf totalOf planOf answerOf u32Bytes texts digitsWithin decimal signedDecimal lettersOf positionLine totalLine resentLine refusalLine answerText positionsText sheetOf
+case-prints = (refl, refl)

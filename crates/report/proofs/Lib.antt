@@ -1,0 +1,6 @@
+pub mod Composing
+pub mod Plans
+pub mod Lengths
+pub mod Fits
+pub mod Whole
+pub mod Example

@@ -1,0 +1,82 @@
+-- From the plan that a file is settled by to the lines of its sheet.
+use mathlib.Core.Path.{_≡_, refl, sym, ap, _∙_}
+use mathlib.Core.Bool.{Bool, true, false, cond}
+use mathlib.Core.List.{List, []}
+use Prim.Native.Nat.{ℕ, _≤_}
+use native.Mathlib.Omega.{arith}
+use borrow.Author.Tests.{ltb-false}
+use lib.Dec.{ltb}
+use lib.IntN.{ℤ, pos}
+use lib.ListN.{length, getD, drop}
+use Rattle.text.specs.Writing.{texts}
+use Rattle.text.proofs.Writing.{texts-same}
+use Rattle.settlement.specs.Limits.{fileLimits}
+use Rattle.settlement.specs.Records.{Lists, markAt, positionAt}
+use Rattle.settlement.specs.Layout.{openedOf, listsIn}
+use Rattle.settlement.specs.Settling.{Plan, accept, refuse, listsPlan, planFor, planOf, said, answerOf, amountsAfter, amountOf, changeIn}
+use Rattle.settlement.specs.declared.file.DayFile.{DayFile}
+use Rattle.settlement.specs.declared.file.Opened.{Opened}
+use Rattle.settlement.specs.declared.file.Opened.the-variants.{File, Refused}
+use Rattle.settlement.specs.declared.checks.Verdict.{Verdict}
+use Rattle.settlement.specs.declared.checks.Verdict.the-variants.{Passed, Failed}
+use Rattle.settlement.specs.declared.settling.Settlement.{Settlement}
+use Rattle.settlement.specs.Checks.{verdictOf}
+use Rattle.numbers.proofs.Tables.{entry}
+use Rattle.report.specs.Lines.{positionLine}
+use Rattle.report.specs.Sheet.{positionsText}
+use Rattle.report.specs.Steps.{Paid, countOf, linesIn}
+
+-- the lines that the writer puts down are those of the plan, and their amounts stand in the slice
+pub record Lined (l : Lists) (plan : Plan) (n : ℕ) (a : List ℤ) : Type 0 where
+  pub room : n ≤ length a
+  pub lines : linesIn l a n ≡ positionsText plan
+
+module _ (l : Lists) (a : List ℤ) {n : ℕ} where
+  lined-refused : {k i : ℕ} → Paid (refuse k i) n a → Lined l (refuse k i) n a
+  unfolding positionsText texts
+  lined-refused p = record { room = omega (arith, p .count); lines = rw (p .count) }
+
+  lined-accepted : length (l .positions) ≤ length a → Paid (accept l) n a → Lined l (accept l) n a
+  unfolding positionsText
+  lined-accepted h p =
+      record {
+        room = omega (arith, p .count);
+        lines = ap (linesIn l a) (p .count) ∙ texts-same _ _ (length (l .positions))
+            (λ i k. ap (positionLine (positionAt (l .positions) i .account) (markAt (l .marks) (positionAt (l .positions) i .mark)))
+            (ap (λ x. getD x i (pos 0)) (p .written) ∙ entry (amountOf (l .positions) (changeIn l)) (length (l .positions)) i (drop (length (l .positions)) (p .before)) (pos 0) k));
+      }
+
+  by-room : (t : Bool) → ltb (length a) (length (l .positions)) ≡ t → Paid (cond t (refuse 14 0) (accept l)) n a → Lined l (cond t (refuse 14 0) (accept l)) n a
+  by-room true e p = lined-refused p
+  by-room false e p = lined-accepted (ltb-false _ _ e) p
+
+  by-verdict : (v : Verdict) → Paid (listsPlan l v (length a)) n a → Lined l (listsPlan l v (length a)) n a
+  by-verdict (Failed c i) p = lined-refused p
+  by-verdict Passed p = by-room (ltb (length a) (length (l .positions))) refl p
+
+pub refused-plan : (s : List ℕ) (places : ℕ) {o : Opened} {k : ℕ} → o ≡ openedOf fileLimits s → o ≡ Refused k → planOf fileLimits s places ≡ refuse k 0
+unfolding planOf
+refused-plan s places e f = rw (← e, f)
+
+-- a file that does not open has no lines
+pub refused-lines : (s : List ℕ) (places : ℕ) {o : Opened} {k : ℕ} → o ≡ openedOf fileLimits s → o ≡ Refused k → positionsText (planOf fileLimits s places) ≡ []
+unfolding positionsText
+refused-lines s places e f = rw (refused-plan s places e f)
+
+pub opened-plan : (s : List ℕ) (places : ℕ) {o : Opened} {d : DayFile} → o ≡ openedOf fileLimits s → o ≡ File d → planOf fileLimits s places ≡ planFor (listsIn s d) places
+unfolding planOf
+opened-plan s places e f = rw (← e, f)
+
+-- of a file that opens, the lines with the slice's amounts are those of the plan
+pub settled-lines : (s : List ℕ) (a : List ℤ) {n : ℕ} {o : Opened} {d : DayFile} → o ≡ openedOf fileLimits s → o ≡ File d → Paid (planOf fileLimits s (length a)) n a
+    → (n ≤ length a) × (linesIn (listsIn s d) a n ≡ positionsText (planOf fileLimits s (length a)))
+settled-lines s a {n} {o} {d} e f p =
+    let q : planOf fileLimits s (length a) ≡ planFor (listsIn s d) (length a) = opened-plan s (length a) e f in
+    let r = by-verdict (listsIn s d) a (verdictOf (listsIn s d)) (rw q at p) in
+    (r .room, r .lines ∙ ap positionsText (sym q))
+
+-- the answer and the slice of a settlement carry out the plan
+pub paid : (s : List ℕ) (before now : List ℤ) (r : Settlement) {n : ℕ} → length now ≡ length before → said r ≡ answerOf fileLimits s (length before)
+    → now ≡ amountsAfter fileLimits s before → n ≡ countOf (said r) → Paid (planOf fileLimits s (length now)) n now
+unfolding answerOf amountsAfter
+paid s before now r e a w c = rw e (record { before = before; written = w; count = c ∙ ap countOf a })

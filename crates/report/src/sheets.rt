@@ -1,0 +1,88 @@
+// The whole sheet.
+ghost use mathlib.Core.Path.{_≡_};
+ghost use Prim.Native.Nat.{_≤_};
+ghost use lib.ListN.{length};
+ghost use Rattle.text.specs.Writing.{Wrote, Writes};
+ghost use Rattle.settlement.specs.Limits.{fileLimits};
+ghost use Rattle.settlement.specs.Layout.{listsIn};
+ghost use Rattle.settlement.specs.Settling.{said, planOf};
+ghost use Rattle.settlement.specs.Steps.{LaidOut};
+ghost use Rattle.report.specs.Sheet.{positionsText, sheetWithin, amountsWithin};
+ghost use Rattle.report.specs.Steps.{Paid, countOf, linesIn};
+use crate::answers::write_answer;
+use crate::positions::write_positions;
+use settlement::DayFile;
+use settlement::Opened;
+use settlement::Settlement;
+use settlement::open_file;
+use settlement::settle;
+
+// No line of a position has more bytes.
+const LINE_SIZE: usize = 47;
+
+// No answer has more: two totals and the resent count.
+const ANSWER_SIZE: usize = 90;
+
+// No sheet has more.
+pub const SHEET_SIZE: usize = LINE_SIZE * DayFile::MAX_POSITIONS + ANSWER_SIZE;
+
+// How many positions were settled.
+fn count(answer: Settlement) -> usize
+    ensures { λ r. ⌜ r ≡ countOf (said answer) ⌝ }
+{
+    match answer {
+        Settlement::Settled {
+            positions,
+            aud: _,
+            nzd: _,
+            resent: _,
+        } => positions,
+        Settlement::Refused {
+            number: _,
+            index: _,
+        } => 0,
+    }
+}
+
+// Lends the sections of the marks and of the positions.
+fn write_laid_out(file: &[u8], d: DayFile, n: usize, amounts: &[i64], out: &mut [u8]) -> usize
+    requires { ⌜ LaidOut (now file) d × (n ≤ length (now amounts)) ⌝ }
+    ensures { λ r. ⌜ Writes (linesIn (listsIn (now (file .entry)) d) (now (amounts .entry)) n) r (now (out .entry)) (now (out .exit)) ⌝ }
+{
+    let start = DayFile::HEADER;
+    let corrections = d.corrections_start();
+    let positions = d.positions_start();
+    let end = d.length();
+    write_positions(
+        &file[start..corrections],
+        &file[positions..end],
+        amounts,
+        n,
+        out,
+    )
+}
+
+// Writes the lines of the n positions that were settled, with their amounts.
+fn write_settled(file: &[u8], n: usize, amounts: &[i64], out: &mut [u8]) -> usize
+    requires { ⌜ Paid (planOf fileLimits (now file) (length (now amounts))) n (now amounts) ⌝ }
+    ensures { λ r. ⌜ Writes (positionsText (planOf fileLimits (now (file .entry)) (length (now (amounts .entry))))) r (now (out .entry)) (now (out .exit)) ⌝ }
+{
+    match open_file(file) {
+        Opened::Refused(_) => 0,
+        Opened::File(d) => write_laid_out(file, d, n, amounts, out),
+    }
+}
+
+// Settles a day file into the lent amounts, writes its sheet at the start of `out`, and answers the sheet's length. With room for less than
+// SHEET_SIZE bytes nothing is written, and the answer is 0.
+pub fn sheet(file: &[u8], amounts: &mut [i64], out: &mut [u8]) -> usize
+    ensures sheet { λ r. ⌜ Wrote (sheetWithin (length (now (out .entry))) (now (file .entry)) (length (now (amounts .entry)))) r (now (out .entry)) (now (out .exit)) ⌝ }
+    ensures amounts { λ r. ⌜ now (amounts .exit) ≡ amountsWithin (length (now (out .entry))) (now (file .entry)) (now (amounts .entry)) ⌝ }
+{
+    if out.len() < SHEET_SIZE {
+        return 0;
+    }
+    let answer = settle(file, amounts);
+    let n = write_settled(file, count(answer), amounts, out);
+    n + write_answer(answer, &mut out[n..])
+}

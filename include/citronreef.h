@@ -1,0 +1,63 @@
+/*
+ * Citronreef: value, tick value and bracket of one ASX 24 rate futures contract, the settlement of a day file,
+ * and its sheet.
+ *
+ * Link with libffi.a, which `rt staticlib ffi` writes to target/staticlib. No function keeps what it is lent, allocates or
+ * reads anything but its arguments. Every argument is answered: a call that cannot be met is refused with a check's number.
+ */
+#ifndef CITRONREEF_H
+#define CITRONREEF_H
+
+#include <stddef.h>
+#include <stdint.h>
+
+#ifdef __cplusplus
+extern "C" {
+#endif
+
+/* The answer of a call on one contract. Where refused is not 0 it is the number of the check, and number is 0. */
+typedef struct {
+    uint64_t refused;
+    uint64_t number;
+} citronreef_quote;
+
+/* The answer to a day file. Where refused is not 0 it is the number of the check, index the record, and the rest is 0. */
+typedef struct {
+    uint64_t refused;
+    uint64_t index;
+    uint64_t positions; /* N */
+    int64_t aud;        /* total in Australian cents */
+    int64_t nzd;        /* total in New Zealand cents */
+    uint64_t resent;    /* corrections with a number that an earlier one bears */
+} citronreef_outcome;
+
+/* The value of one contract in cents. The code is two letters; the price is in units of 0.0001. */
+citronreef_quote citronreef_value(uint8_t first, uint8_t second, uint32_t price);
+
+/* The value at the price one tick higher, minus the value. */
+citronreef_quote citronreef_tick_value(uint8_t first, uint8_t second, uint32_t price);
+
+/* The bracket of a bond, in units of 10^-8. */
+citronreef_quote citronreef_bracket(uint8_t first, uint8_t second, uint32_t price);
+
+/*
+ * Settles a day file of file_length bytes. The amounts of an accepted file stand in its first N places, in cents; places from
+ * N on, and all places after a refusal, are left as they were. Neither pointer may be null, and the two do not overlap.
+ */
+citronreef_outcome citronreef_settle(const uint8_t *file, size_t file_length, int64_t *amounts, size_t places);
+
+/* No sheet is longer than this, in bytes: 47 for each of 4,096 positions, and 90 for the totals and the resent count. */
+#define CITRONREEF_SHEET_SIZE 192602
+
+/*
+ * Settles a day file as citronreef_settle does, writes its sheet at the start of out, and answers the sheet's length; the
+ * other bytes of out stay. With room for less than CITRONREEF_SHEET_SIZE bytes nothing is written, neither sheet nor
+ * amounts, and the answer is 0. No pointer may be null, and no two of the three parts overlap.
+ */
+size_t citronreef_sheet(const uint8_t *file, size_t file_length, int64_t *amounts, size_t places, uint8_t *out, size_t room);
+
+#ifdef __cplusplus
+}
+#endif
+
+#endif

@@ -1,0 +1,57 @@
+//! The functions of the static library, as include/citronreef.h declares them. A slice is a pointer and then a length.
+
+use crate::answers::{Refusal, Settled};
+
+#[repr(C)]
+pub struct Quote {
+    refused: u64,
+    number: u64,
+}
+
+#[repr(C)]
+pub struct Outcome {
+    refused: u64,
+    index: u64,
+    positions: u64,
+    aud: i64,
+    nzd: i64,
+    resent: u64,
+}
+
+extern "C" {
+    pub fn citronreef_value(first: u8, second: u8, price: u32) -> Quote;
+    pub fn citronreef_tick_value(first: u8, second: u8, price: u32) -> Quote;
+    pub fn citronreef_bracket(first: u8, second: u8, price: u32) -> Quote;
+    pub fn citronreef_settle(file: *const u8, file_length: usize, amounts: *mut i64, places: usize) -> Outcome;
+    pub fn citronreef_sheet(
+        file: *const u8,
+        file_length: usize,
+        amounts: *mut i64,
+        places: usize,
+        out: *mut u8,
+        room: usize,
+    ) -> usize;
+}
+
+impl Quote {
+    pub fn answer(self) -> Result<u64, Refusal> {
+        match self.refused {
+            0 => Ok(self.number),
+            number => Err(Refusal::of(number as u32)),
+        }
+    }
+}
+
+impl Outcome {
+    pub fn answer(self) -> Result<Settled, Refusal> {
+        match self.refused {
+            0 => Ok(Settled {
+                positions: self.positions as usize,
+                aud: self.aud,
+                nzd: self.nzd,
+                resent: self.resent as usize,
+            }),
+            number => Err(Refusal { number: number as u32, index: self.index as usize }),
+        }
+    }
+}

@@ -1,0 +1,98 @@
+"""The records of a day file and its layout, written from the build description, document 01: "The day file"."""
+import struct
+from dataclasses import dataclass
+
+from calculator import PRODUCTS
+
+HEADER_SIZE = 24
+RECORD_SIZE = 12
+MAX_MARKS = 256
+MAX_CORRECTIONS = 512
+MAX_POSITIONS = 4_096
+
+
+# Records
+
+
+@dataclass(frozen=True)
+class Mark:
+    code: bytes
+    month: int
+    year: int
+    previous: int
+    today: int
+
+    def packed(self):
+        return struct.pack("<2sBBII", self.code, self.month, self.year, self.previous, self.today)
+
+    @staticmethod
+    def unpacked(record):
+        return Mark(*struct.unpack("<2sBBII", record))
+
+    @property
+    def product(self):
+        return PRODUCTS[self.code]
+
+
+@dataclass(frozen=True)
+class Correction:
+    number: int
+    mark: int
+    price: int
+
+    def packed(self):
+        return struct.pack("<III", self.number, self.mark, self.price)
+
+    @staticmethod
+    def unpacked(record):
+        return Correction(*struct.unpack("<III", record))
+
+
+@dataclass(frozen=True)
+class Position:
+    account: int
+    mark: int
+    lots: int
+
+    def packed(self):
+        return struct.pack("<IIi", self.account, self.mark, self.lots)
+
+    @staticmethod
+    def unpacked(record):
+        return Position(*struct.unpack("<IIi", record))
+
+
+@dataclass(frozen=True)
+class Day:
+    """The three lists of a day file."""
+
+    marks: list
+    corrections: list
+    positions: list
+
+
+# Layout
+
+
+def header_numbers(marks, corrections, positions):
+    """The six header numbers that the layout has for these counts."""
+    after_marks = HEADER_SIZE + RECORD_SIZE * marks
+    return (marks, HEADER_SIZE, corrections, after_marks, positions, after_marks + RECORD_SIZE * corrections)
+
+
+def file_of(day, header=None):
+    """The bytes of a day file; a header that is given stands in place of the layout's."""
+    sections = (day.marks, day.corrections, day.positions)
+    numbers = header or header_numbers(*map(len, sections))
+    return struct.pack("<6I", *numbers) + b"".join(r.packed() for section in sections for r in section)
+
+
+def sections_of(file):
+    """The day of a file that passes checks 1 to 3."""
+    marks, _, corrections, _, positions, _ = struct.unpack_from("<6I", file)
+    records = [file[i : i + RECORD_SIZE] for i in range(HEADER_SIZE, len(file), RECORD_SIZE)]
+    return Day(
+        [Mark.unpacked(r) for r in records[:marks]],
+        [Correction.unpacked(r) for r in records[marks : marks + corrections]],
+        [Position.unpacked(r) for r in records[marks + corrections :]],
+    )
