@@ -60,13 +60,13 @@ pub(crate) fn brackets_at(coupon: u64, halves: u64, p: u64, q: u64) -> Two
     let mut w = other;
     let mut sum = first;
     let mut total = other;
-    let mut k = 1;
-    while k < halves {
+    let mut rung = 1;
+    while rung < halves {
         v = descaled(v * first);
         w = descaled(w * other);
         sum += v;
         total += w;
-        k += 1;
+        rung += 1;
     }
     Two(coupon * sum + 100 * v, coupon * total + 100 * w)
 }
