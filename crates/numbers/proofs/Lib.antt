@@ -8,6 +8,7 @@ pub mod Counting
 pub mod Order
 pub mod Tables
 pub mod Sections
+pub mod Bytes
 pub mod Rounding
 pub mod Nearness
 pub mod Powers

@@ -1,5 +1,5 @@
 -- Numbers in bytes, little-endian, and a section's bytes as a list of records. A record is the list of its bytes.
-use Prim.Native.Nat.{ℕ, zero, suc, _+_, _*_, _/_, _%_}
+use Prim.Native.Nat.{ℕ, zero, suc, _+_, _*_, _/_, _%_, _<_}
 use mathlib.Core.List.{List, [], _∷_, _++_}
 use mathlib.Core.Bool.{cond}
 use lib.Dec.{ltb}
@@ -9,6 +9,10 @@ use lib.IntN.{ℤ, pos, _-ℤ_}
 -- the byte at a place, 0 past the end
 abbrev pub byteAt : List ℕ → ℕ → ℕ
 byteAt s i = getD s i 0
+
+-- a list of bytes: each element is one
+abbrev pub Bytes : List ℕ → Type 0
+Bytes s = (i : ℕ) → byteAt s i < 256
 
 -- four bytes, the lowest first
 abbrev pub joined : ℕ → ℕ → ℕ → ℕ → ℕ

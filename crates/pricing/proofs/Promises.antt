@@ -1,4 +1,7 @@
 -- What is promised of one contract. Open this file first: each law is stated here in the terms of specs/, its argument stands in the file it cites.
+use mathlib.Core.Bool.{true}
+use mathlib.Core.List.{List·Memᴰ}
+use mathlib.Core.Logic.{_↔_}
 use mathlib.Core.Path.{_≡_, refl, sym, ap, _∙_}
 use Prim.Native.Nat.{ℕ, _+_, _*_, _-_, _%_, _^_, _≤_, _<_}
 use native.Mathlib.Nat.{add-mod-right}
@@ -10,7 +13,7 @@ use Rattle.numbers.specs.Nearness.{Near}
 use Rattle.numbers.specs.Fractions.{_minus_, _times_, Within, Same}
 use Rattle.numbers.proofs.Rounding.{nearest-scale}
 use Rattle.pricing.specs.Prices.{priceLimit, yieldAt}
-use Rattle.pricing.specs.Products.{find}
+use Rattle.pricing.specs.Products.{find, hasMonth, monthsOf}
 use Rattle.pricing.specs.Ladder.{base, factor, bracket, exactBracket, wholeBracket}
 use Rattle.pricing.specs.Value.{scale, billDividend, billDivisor, bondDivisor, valueBy, exactOf, valueCap}
 use Rattle.pricing.specs.Calls.{given, valueOf, tickValueOf, bracketOf}
@@ -24,6 +27,7 @@ use Rattle.pricing.specs.declared.products.Terms.the-variants.{Bill, Bon
 use Rattle.pricing.proofs.Distance as distance
 use Rattle.pricing.proofs.Exact as exact
 use Rattle.pricing.proofs.Table.{sound}
+use Rattle.pricing.proofs.Months as months
 use Rattle.pricing.proofs.Bounds.{Steps, factor-cap, steps-fit-by, value-by-cap}
 use Rattle.pricing.proofs.Rise.{value-by-rises}
 use Rattle.pricing.proofs.Answers.{valued, gives-value, tick-valued}
@@ -127,6 +131,10 @@ value-cap code p e =
 -- A value is given for each code of the table at each price within the limit and on the tick.
 pub value-given : (code : Code) {q : Product} {p : ℕ} → find code ≡ At q → p ≤ priceLimit → p % q .tick ≡ 0 → valueOf code p ≡ given (valueBy (q .terms) p)
 value-given code {p = p} f l t = gives-value code p f (record { within = l; on-tick = t })
+
+-- The test of a month says yes exactly for the product's months.
+pub month-exactly : (q : Product) (m : ℕ) → (hasMonth q m ≡ true) ↔ List·Memᴰ m (monthsOf q)
+month-exactly = months.month-exactly
 
 -- A product's tick is positive.
 pub tick-positive : (code : Code) {q : Product} → find code ≡ At q → 0 < q .tick

@@ -1,17 +1,15 @@
 -- The marked figures of document 01: one table of questions and answers, and one claim that the definitions answer so.
-use Prim.Native.Nat.{ℕ, zero, suc}
+use Prim.Native.Nat.{ℕ}
 use mathlib.Core.Path.{_≡_, refl}
-use mathlib.Core.List.{List, [], _∷_, _++_, map}
-use mathlib.Core.Bool.{cond}
+use mathlib.Core.List.{List, [], _∷_, map}
 use Rattle.numbers.specs.Rounding.{nearest}
 use Rattle.numbers.specs.Sums.{sumTo}
 use Rattle.pricing.specs.Prices.{par, priceLimit, yieldAt}
-use Rattle.pricing.specs.Products.{IR, IB, YT, XT, XX, products, sameCode, findIn, find, hasMonth}
+use Rattle.pricing.specs.Products.{IR, IB, YT, XT, XX, products, sameCode, findIn, find, hasMonth, monthsBelow, monthsOf}
 use Rattle.pricing.specs.Ladder.{factor, annuity, bracket}
 use Rattle.pricing.specs.Value.{scale, billDividend, billDivisor, bondDivisor, valueBy}
 use Rattle.pricing.specs.Calls.{Answer, given, refused, judged, valueOf, tickValueOf, bracketOf}
 use Rattle.pricing.specs.declared.products.Code.{Code}
-use Rattle.pricing.specs.declared.products.Product.{Product}
 
 -- what is asked at a price: a value, a tick value, a bracket, or the ladder's Vk
 pub data Question : Type 0 where
@@ -64,13 +62,8 @@ pub figures-hold : map (λ f. answerTo (f .question)) figures ≡ map (λ f. f .
 unfolding figures answerTo nearest sumTo par priceLimit yieldAt products sameCode findIn find factor annuity bracket scale billDividend billDivisor bondDivisor valueBy judged valueOf tickValueOf bracketOf
 figures-hold = refl
 
--- the months below n that are the product's
-unfoldable pub monthsBelow : ℕ → Product → List ℕ
-monthsBelow zero q = []
-monthsBelow (suc n) q = monthsBelow n q ++ cond (hasMonth q n) (n ∷ []) []
-
--- the months of the six lines, of all that a byte can name
-pub months-hold : map (monthsBelow 256) products ≡ (3 ∷ 6 ∷ 9 ∷ 12 ∷ []) ∷ (3 ∷ 6 ∷ 9 ∷ 12 ∷ []) ∷ (1 ∷ 2 ∷ 3 ∷ 4 ∷ 5 ∷ 6 ∷ 7 ∷ 8 ∷ 9 ∷ 10 ∷ 11 ∷ 12 ∷ [])
+-- the months of the six lines
+pub months-hold : map monthsOf products ≡ (3 ∷ 6 ∷ 9 ∷ 12 ∷ []) ∷ (3 ∷ 6 ∷ 9 ∷ 12 ∷ []) ∷ (1 ∷ 2 ∷ 3 ∷ 4 ∷ 5 ∷ 6 ∷ 7 ∷ 8 ∷ 9 ∷ 10 ∷ 11 ∷ 12 ∷ [])
     ∷ (3 ∷ 6 ∷ 9 ∷ 12 ∷ []) ∷ (3 ∷ 6 ∷ 9 ∷ 12 ∷ []) ∷ (3 ∷ 6 ∷ 9 ∷ 12 ∷ []) ∷ []
 unfolding monthsBelow products hasMonth
 months-hold = refl

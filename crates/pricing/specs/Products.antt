@@ -1,6 +1,6 @@
 -- The product table, and the product that a code names.
-use Prim.Native.Nat.{ℕ, _+_, _/_, _%_, _^_}
-use mathlib.Core.List.{List, [], _∷_}
+use Prim.Native.Nat.{ℕ, zero, suc, _+_, _/_, _%_, _^_}
+use mathlib.Core.List.{List, [], _∷_, _++_}
 use mathlib.Core.Bool.{Bool, cond, _&&_}
 use lib.Dec.{eqb, ltb}
 use Rattle.pricing.specs.declared.products.Code.{Code}
@@ -70,3 +70,11 @@ find a = findIn products a
 -- a month is one of the product's
 unfoldable pub hasMonth : Product → ℕ → Bool
 hasMonth q m = ltb m 16 && eqb (q .months / 2 ^ m % 2) 1
+
+-- the product's months below n, and all of them: the months of a line have less than sixteen bits
+unfoldable pub monthsBelow : ℕ → Product → List ℕ
+monthsBelow zero q = []
+monthsBelow (suc n) q = monthsBelow n q ++ cond (hasMonth q n) (n ∷ []) []
+
+abbrev pub monthsOf : Product → List ℕ
+monthsOf q = monthsBelow 16 q

@@ -36,8 +36,10 @@ use Rattle.settlement.proofs.Opening.{opens, laid-out}
 use Rattle.settlement.proofs.Demands.{demand-2}
 use Rattle.report.proofs.Plans.{opened-plan, refused-plan}
 use Rattle.report.specs.Lines.{lineAt}
-use Rattle.report.proofs.Lengths.{part-bytes, u32-small, mark-read, position-read, line-length, totals-length, refusal-length}
-use Rattle.report.specs.Sheet.{answerText, positionsText, sheetOf, lineSize, sheetSize, Bytes}
+use Rattle.numbers.specs.Bytes.{Bytes}
+use Rattle.numbers.proofs.Bytes.{part-bytes, u32-small}
+use Rattle.report.proofs.Lengths.{mark-read, position-read, line-length, totals-length, refusal-length}
+use Rattle.report.specs.Sheet.{answerText, positionsText, sheetOf, lineSize, sheetSize}
 
 -- ---- a file that is accepted
 

@@ -10,26 +10,16 @@ use lib.Seq.{getD-take, getD-drop}
 use Rattle.text.proofs.Decimals.{decimal-length, signed-length}
 use Rattle.pricing.specs.declared.products.Currency.{Currency}
 use Rattle.pricing.specs.declared.products.Currency.the-variants.{Aud, Nzd}
-use Rattle.numbers.specs.Bytes.{u32At, part, recordsOf}
+use Rattle.numbers.specs.Bytes.{Bytes, part, recordsOf}
 use Rattle.settlement.specs.Records.{markOf, positionOf, marksIn, positionsIn, markAt, positionAt, markSize, positionSize}
 use Rattle.settlement.specs.Products.{currencyOf}
 use Rattle.settlement.specs.declared.records.Mark.{Mark}
+use Rattle.numbers.proofs.Bytes.{part-bytes}
 use Rattle.numbers.proofs.Sections.{record-here, record-past}
 use Rattle.report.specs.Lines.{lettersOf, positionLine, totalLine, resentLine, refusalLine}
-use Rattle.report.specs.Sheet.{totalsText, lineSize, answerSize, Bytes}
+use Rattle.report.specs.Sheet.{totalsText, lineSize, answerSize}
 
 -- ---- the fields of a record of bytes
-
-pub part-bytes : (a n : ℕ) (s : List ℕ) → Bytes s → Bytes (part a n s)
-part-bytes a n s b i = go (decLt i n)
-  where
-    go : Dec (i < n) → getD (part a n s) i 0 < 256
-    go (yes h) = rw (getD-take n (drop a s) i 0 h, getD-drop a s i 0) (b (a + i))
-    go (no h) = rw (List·getD-eq-default (part a n s) 0 {n = i} (simp length-take (omega arith))) (omega arith)
-
-pub u32-small : (r : List ℕ) (i : ℕ) → Bytes r → u32At r i < 4294967296
-unfolding u32At
-u32-small r i b = omega (arith, b i, b (i + 1), b (i + 2), b (i + 3))
 
 -- x is read from a record of bytes
 pub record Read {R : Type 0} (f : List ℕ → R) (x : R) : Type 0 where

@@ -48,7 +48,3 @@ sheetWithin room file places = cond (leb sheetSize room) (sheetOf file places) [
 
 unfoldable pub amountsWithin : ℕ → List ℕ → List ℤ → List ℤ
 amountsWithin room file a = cond (leb sheetSize room) (amountsAfter fileLimits file a) a
-
--- a list of bytes: each element is one
-abbrev pub Bytes : List ℕ → Type 0
-Bytes s = (i : ℕ) → getD s i 0 < 256

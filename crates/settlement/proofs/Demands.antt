@@ -14,7 +14,7 @@ use Rattle.pricing.specs.Calls.{given, valueOf}
 use Rattle.pricing.specs.Value.{exactOf}
 use Rattle.pricing.specs.Accuracy.{accuracyOf}
 use Rattle.pricing.specs.declared.products.Currency.the-variants.{Aud, Nzd}
-use Rattle.numbers.specs.Bytes.{u32At}
+use Rattle.numbers.specs.Bytes.{Bytes, u32At}
 use Rattle.numbers.specs.Folds.{sum, count, some}
 use Rattle.settlement.specs.Limits.{Limits, fileLimits}
 use Rattle.settlement.specs.Records.{Lists, correctionAt}
@@ -107,10 +107,10 @@ pub demand-3-resend : (l : Limits) (f g : List ℕ) (copies n k : ℕ) (aud nzd 
     → (answerOf l g (length b) ≡ settled n aud nzd (k + copies)) × (take n (amountsAfter l g b) ≡ take n (amountsAfter l f a))
 demand-3-resend l f g copies n k aud nzd a b = resending.resend l f g copies n k aud nzd a b
 
--- There is such a file for every list of corrections sent again within the limit, so the claim is not an empty one.
+-- There is such a file for every list of corrections sent again within the limit, of bytes where f is, so the claim is not an empty one.
 pub resent-exists : (f : List ℕ) (ds : List (List ℕ)) (copies n k : ℕ) (aud nzd : ℤ) (a : List ℤ) → answerOf fileLimits f (length a) ≡ settled n aud nzd k
     → SentAgain (correctionRecords f) (correctionRecords f) ds copies → length ds ≤ fileLimits .corrections
-    → (g : List ℕ) × Resent f g copies × (correctionRecords g ≡ ds) × (u32At g 8 ≤ fileLimits .corrections)
+    → (g : List ℕ) × Resent f g copies × (correctionRecords g ≡ ds) × (u32At g 8 ≤ fileLimits .corrections) × (Bytes f → Bytes g)
 resent-exists f ds copies n k aud nzd a = made.resent-exists f ds copies n k aud nzd a
 
 -- ---- totals, final prices and the resent count

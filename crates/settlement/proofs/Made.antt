@@ -5,7 +5,8 @@ use Prim.Native.Nat.{ℕ, _+_, _*_, _/_, _%_, _<_}
 use native.Mathlib.Omega.{arith}
 use lib.ListN.{length, length-append}
 use lib.Seq.{take-at, drop-at, take-all}
-use Rattle.numbers.specs.Bytes.{u32At, part, u32Bytes}
+use Rattle.numbers.specs.Bytes.{Bytes, u32At, part, u32Bytes}
+use Rattle.numbers.proofs.Bytes.{append-bytes, u32-bytes}
 use Rattle.settlement.specs.Records.{markSize, correctionSize, positionSize}
 use Rattle.settlement.specs.Limits.{fileLimits}
 use Rattle.settlement.specs.Layout.{headerSize, countsOf, correctionsStart, positionsStart, lengthOf, openedOf, markBytes, correctionBytes, positionBytes}
@@ -107,3 +108,23 @@ module _ (f : List ℕ) {d : DayFile} (o : openedOf fileLimits f ≡ File d) whe
         corrections = length-part (correctionsStart d) (correctionSize * d .corrections) f (omega arith);
         positions = length-part (positionsStart d) (positionSize * d .positions) f (omega arith);
       }
+
+-- ---- its bytes
+
+entry-is-bytes : (count at : ℕ) → Bytes (entryBytes count at)
+unfolding entryBytes
+entry-is-bytes count at = append-bytes (u32Bytes count) (u32Bytes at) (u32-bytes count) (u32-bytes at)
+
+header-is-bytes : (d : DayFile) → Bytes (headerOf d)
+unfolding headerOf
+header-is-bytes d =
+    let m = entryBytes (d .marks) headerSize in
+    let c = entryBytes (d .corrections) (correctionsStart d) in
+    let p = entryBytes (d .positions) (positionsStart d) in
+    append-bytes (m ++ c) p (append-bytes m c (entry-is-bytes _ _) (entry-is-bytes _ _)) (entry-is-bytes _ _)
+
+pub made-is-bytes : (ms cs ps : List ℕ) → Bytes ms → Bytes cs → Bytes ps → Bytes (madeOf ms cs ps)
+unfolding madeOf
+made-is-bytes ms cs ps m c p =
+    let h = headerOf (countsIn ms cs ps) in
+    append-bytes (h ++ ms ++ cs) ps (append-bytes (h ++ ms) cs (append-bytes h ms (header-is-bytes (countsIn ms cs ps)) m) c) p

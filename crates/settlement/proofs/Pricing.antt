@@ -73,8 +73,8 @@ tells-off-tick a p = off-tick-by a p (find a) refl
 quoted-by : (a : Code) (m : ℕ) (o : Found) → find a ≡ o → Tells (quotedIn o m) (Quoted a m)
 quoted-by a m (At q) e =
     record {
-      yes = λ h. (q, e, h);
-      no = λ h x. (let r : x .0 ≡ q = (let f = x .1 in cc) in not-both (x .2) (rw (← r) at h));
+      yes = λ h. (q, e, pricing.month-exactly q m .0 h);
+      no = λ h x. (let r : x .0 ≡ q = (let f = x .1 in cc) in not-both (pricing.month-exactly q m .1 (rw r at (x .2))) h);
     }
 quoted-by a m Missing e =
     record { yes = λ h. not-both h refl; no = λ h x. (let z : _≡_ {A = ℕ} 0 1 = (let f = x .1 in cc) in omega arith) }

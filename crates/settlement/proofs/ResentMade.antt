@@ -6,10 +6,11 @@ use native.Mathlib.Omega.{arith}
 use lib.IntN.{ℤ}
 use lib.ListN.{length, drop, length-append, length-drop, length-map}
 use lib.Seq.{take-at, drop-at, length-take-le}
-use Rattle.numbers.specs.Bytes.{u32At, records, recordsOf, bytesOf}
-use Rattle.settlement.specs.Records.{correctionSize, correctionOf}
+use Rattle.numbers.specs.Bytes.{Bytes, u32At, records, recordsOf, bytesOf}
+use Rattle.numbers.proofs.Bytes.{part-bytes, record-bytes, all-bytes}
+use Rattle.settlement.specs.Records.{correctionSize, correctionOf, markSize, positionSize}
 use Rattle.settlement.specs.Limits.{fileLimits}
-use Rattle.settlement.specs.Layout.{countsOf, openedOf, markBytes, correctionBytes, positionBytes}
+use Rattle.settlement.specs.Layout.{countsOf, openedOf, markBytes, correctionBytes, positionBytes, headerSize, correctionsStart, positionsStart}
 use Rattle.settlement.specs.Settling.{settled, answerOf}
 use Rattle.settlement.specs.Resend.{SentAgain, correctionRecords, Resent}
 use Rattle.settlement.specs.Making.{countsIn, madeOf}
@@ -19,7 +20,7 @@ use Rattle.numbers.proofs.Sections.{size-is}
 use Rattle.settlement.proofs.Parts.{corrections-sized}
 use Rattle.settlement.proofs.Resending.{sent-within, sent-length}
 use Rattle.settlement.proofs.Opening.{opens, laid-out, laid-opens, settled-accepted}
-use Rattle.settlement.proofs.Made.{Whole, counts-by, sections-whole, made-counts, made-length, made-marks-at, made-corrections-at, made-positions-at, made-marks, made-corrections, made-positions}
+use Rattle.settlement.proofs.Made.{Whole, counts-by, sections-whole, made-counts, made-length, made-marks-at, made-corrections-at, made-positions-at, made-marks, made-corrections, made-positions, made-is-bytes}
 
 -- ---- records of one size and their bytes
 
@@ -117,10 +118,21 @@ module _ (f : List ℕ) (o : openedOf fileLimits f ≡ File (countsOf f)) (ds : 
   unfolding countsOf
   few-counted = omega (arith, ap (λ (e : DayFile). e .corrections) (made-counts _ _ _ counts whole), few)
 
+  -- and a file of bytes where f is one
+  made-of-bytes : Bytes f → Bytes (withCorrections f ds)
+  unfolding recordsOf
+  made-of-bytes b =
+      let d = countsOf f in
+      let cs = correctionBytes f d in
+      let c = part-bytes (correctionsStart d) (correctionSize * d .corrections) f b in
+      made-is-bytes (markBytes f d) (bytesOf ds) (positionBytes f d) (part-bytes headerSize (markSize * d .marks) f b)
+      (all-bytes ds (λ r m. record-bytes correctionSize (length cs / correctionSize) cs c r (sent-within sent (λ c n. n) r m)))
+      (part-bytes (positionsStart d) (positionSize * d .positions) f b)
+
 -- for every list of corrections sent again within the limit there is the file that has it
 pub resent-exists : (f : List ℕ) (ds : List (List ℕ)) (copies n k : ℕ) (x y : ℤ) (a : List ℤ) → answerOf fileLimits f (length a) ≡ settled n x y k
     → SentAgain (correctionRecords f) (correctionRecords f) ds copies → length ds ≤ fileLimits .corrections
-    → (g : List ℕ) × Resent f g copies × (correctionRecords g ≡ ds) × (u32At g 8 ≤ fileLimits .corrections)
+    → (g : List ℕ) × Resent f g copies × (correctionRecords g ≡ ds) × (u32At g 8 ≤ fileLimits .corrections) × (Bytes f → Bytes g)
 resent-exists f ds copies n k x y a e sent few =
     let o = laid-opens fileLimits f (settled-accepted fileLimits f (length a) e .laid) in
-    (withCorrections f ds, resent-made f o ds sent few, records-are f o ds sent few, few-counted f o ds sent few)
+    (withCorrections f ds, resent-made f o ds sent few, records-are f o ds sent few, few-counted f o ds sent few, made-of-bytes f o ds sent few)

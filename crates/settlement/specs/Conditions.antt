@@ -2,14 +2,13 @@
 use Prim.Native.Nat.{ℕ, _≤_, _<_, _∣_}
 use mathlib.Core.Path.{_≡_}
 use mathlib.Core.Logic.{_⊎_, _≢_}
-use mathlib.Core.Bool.{true}
-use mathlib.Core.List.{List, [], _∷_, _++_, map}
+use mathlib.Core.List.{List, [], _∷_, _++_, map, List·Memᴰ}
 use lib.IntN.{pos, negℤ}
 use lib.Signed.{_<ℤ_}
 use lib.ListN.{length}
 use Rattle.numbers.specs.Order.{Decides, Clear}
 use Rattle.pricing.specs.Prices.{priceLimit}
-use Rattle.pricing.specs.Products.{find, hasMonth}
+use Rattle.pricing.specs.Products.{find, monthsOf}
 use Rattle.pricing.specs.Conditions.{Unlisted}
 use Rattle.pricing.specs.declared.products.Code.{Code}
 use Rattle.pricing.specs.declared.products.Product.{Product}
@@ -28,7 +27,7 @@ use Rattle.settlement.specs.declared.checks.Check.the-variants as check
 
 -- the product table has the code, and the month is one of the product's
 abbrev pub Quoted : Code → ℕ → Type 0
-Quoted code month = (q : Product) × (find code ≡ At q) × (hasMonth q month ≡ true)
+Quoted code month = (q : Product) × (find code ≡ At q) × List·Memᴰ month (monthsOf q)
 
 -- a price breaks 7 for a mark
 abbrev pub OffTick : Mark → ℕ → Type 0

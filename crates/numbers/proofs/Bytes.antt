@@ -1,0 +1,43 @@
+-- Lists of bytes: what is cut out of them and put together from them.
+use mathlib.Core.Path.{refl}
+use mathlib.Core.List.{List, [], _∷_, _++_, List·Memᴰ, List·Memᴰ·head, List·Memᴰ·tail, List·Memᴰ·not-nil}
+use Prim.Native.Nat.{ℕ, zero, suc, _+_, _/_, _<_}
+use native.Mathlib.Decide.{decLt}
+use native.Mathlib.Omega.{arith}
+use lib.ListN.{length, getD, take, drop, length-take, List·getD-eq-default}
+use lib.Seq.{getD-take, getD-drop}
+use Rattle.numbers.specs.Bytes.{Bytes, u32At, u32Bytes, part, records, recordsOf, bytesOf}
+
+pub part-bytes : (a n : ℕ) (s : List ℕ) → Bytes s → Bytes (part a n s)
+part-bytes a n s b i = go (decLt i n)
+  where
+    go : Dec (i < n) → getD (part a n s) i 0 < 256
+    go (yes h) = rw (getD-take n (drop a s) i 0 h, getD-drop a s i 0) (b (a + i))
+    go (no h) = rw (List·getD-eq-default (part a n s) 0 {n = i} (simp length-take (omega arith))) (omega arith)
+
+pub u32-small : (r : List ℕ) (i : ℕ) → Bytes r → u32At r i < 4294967296
+unfolding u32At
+u32-small r i b = omega (arith, b i, b (i + 1), b (i + 2), b (i + 3))
+
+pub append-bytes : (s t : List ℕ) → Bytes s → Bytes t → Bytes (s ++ t)
+append-bytes [] t h k i = k i
+append-bytes (x ∷ s) t h k zero = h 0
+append-bytes (x ∷ s) t h k (suc i) = append-bytes s t (λ j. h (suc j)) k i
+
+pub u32-bytes : (n : ℕ) → Bytes (u32Bytes n)
+unfolding u32Bytes
+u32-bytes n zero = omega arith
+u32-bytes n (suc zero) = omega arith
+u32-bytes n (suc (suc zero)) = omega arith
+u32-bytes n (suc (suc (suc zero))) = omega arith
+u32-bytes n (suc (suc (suc (suc i)))) = omega arith
+
+-- each record of a list of bytes is one, and so is a list made of such records
+pub record-bytes : (w n : ℕ) (s : List ℕ) → Bytes s → (r : List ℕ) → List·Memᴰ r (records w n s) → Bytes r
+record-bytes w zero s b r m = absurd (List·Memᴰ·not-nil m)
+record-bytes w (suc n) s b r (List·Memᴰ·head e) = rw e (part-bytes 0 w s b)
+record-bytes w (suc n) s b r (List·Memᴰ·tail m) = record-bytes w n (drop w s) (λ i. rw (getD-drop w s i 0) (b (w + i))) r m
+
+pub all-bytes : (rs : List (List ℕ)) → ((r : List ℕ) → List·Memᴰ r rs → Bytes r) → Bytes (bytesOf rs)
+all-bytes [] h = λ i. omega arith
+all-bytes (r ∷ rs) h = append-bytes r (bytesOf rs) (h r (List·Memᴰ·head refl)) (all-bytes rs (λ q m. h q (List·Memᴰ·tail m)))
