@@ -1,12 +1,12 @@
 -- Lists of bytes: what is cut out of them and put together from them.
 use mathlib.Core.Path.{refl}
 use mathlib.Core.List.{List, [], _∷_, _++_, List·Memᴰ, List·Memᴰ·head, List·Memᴰ·tail, List·Memᴰ·not-nil}
-use Prim.Native.Nat.{ℕ, zero, suc, _+_, _/_, _<_}
+use Prim.Native.Nat.{ℕ, zero, suc, _+_, _<_}
 use native.Mathlib.Decide.{decLt}
 use native.Mathlib.Omega.{arith}
-use lib.ListN.{length, getD, take, drop, length-take, List·getD-eq-default}
+use lib.ListN.{getD, drop, length-take, List·getD-eq-default}
 use lib.Seq.{getD-take, getD-drop}
-use Rattle.numbers.specs.Bytes.{Bytes, u32At, u32Bytes, part, records, recordsOf, bytesOf}
+use Rattle.numbers.specs.Bytes.{Bytes, u32At, u32Bytes, part, records, bytesOf}
 
 pub part-bytes : (a n : ℕ) (s : List ℕ) → Bytes s → Bytes (part a n s)
 part-bytes a n s b i = go (decLt i n)

@@ -1,12 +1,11 @@
 -- How long a line can be, and how large the fields of a record of bytes.
 use mathlib.Core.Path.{_≡_, refl}
 use mathlib.Core.List.{List, [], map}
-use Prim.Native.Nat.{ℕ, _+_, _*_, _/_, _^_, _≤_, _<_}
+use Prim.Native.Nat.{ℕ, _*_, _/_, _^_, _≤_, _<_}
 use native.Mathlib.Decide.{decLt}
 use native.Mathlib.Omega.{arith}
 use lib.IntN.{ℤ, natAbs}
-use lib.ListN.{length, getD, drop, length-append, length-take, List·getD-eq-default}
-use lib.Seq.{getD-take, getD-drop}
+use lib.ListN.{length, getD, length-append}
 use Rattle.text.proofs.Decimals.{decimal-length, signed-length}
 use Rattle.pricing.specs.declared.products.Currency.{Currency}
 use Rattle.pricing.specs.declared.products.Currency.the-variants.{Aud, Nzd}

@@ -1,10 +1,10 @@
 -- The sheet of a day file: a line for each position of an accepted file, in file order, and the lines of the answer.
-use Prim.Native.Nat.{ℕ, _+_, _*_, _<_}
+use Prim.Native.Nat.{ℕ, _+_, _*_}
 use mathlib.Core.Bool.{cond}
 use mathlib.Core.List.{List, [], _++_}
 use lib.Dec.{leb}
 use lib.IntN.{ℤ}
-use lib.ListN.{length, getD}
+use lib.ListN.{length}
 use Rattle.text.specs.Writing.{texts}
 use Rattle.settlement.specs.Limits.{fileLimits}
 use Rattle.settlement.specs.Settling.{Answer, settled, refused, Plan, accept, refuse, planOf, answerOf, amountsAfter, amountOf, changeIn}
