@@ -2,8 +2,8 @@
 //!
 //!   rt check sheet && rt staticlib ffi && cd rust && cargo build --release --examples && cargo run --release --example bench
 
-use citronreef::days::day_of;
-use citronreef::products::{self, PRICE_LIMIT, PRODUCTS};
+use citronreef::days::{day_of, day_of_products};
+use citronreef::products::{self, Product, PRICE_LIMIT, PRODUCTS};
 use citronreef::random::Random;
 use citronreef::records::{Day, MAX_CORRECTIONS, MAX_MARKS, MAX_POSITIONS};
 use citronreef::sheet::sheet;
@@ -70,6 +70,40 @@ fn print_settle_row(label: &str, [proved, plain, hashed]: [f64; 3]) {
     println!("{label:>21} {proved:>9.1} {plain:>9.1} {to_plain:>9.2} {hashed:>9.1} {to_hashed:>9.2}");
 }
 
+/// Gives each correction another number of one bucket of the library's, so that its chain is as long as the list.
+fn with_one_bucket(mut day: Day) -> Day {
+    let bucket = |number: u32| u64::from(number) * 2_654_435_761 / 1_048_576 % 4_096;
+    let numbers = (0..u32::MAX).filter(|&number| bucket(number) == 0);
+    for (correction, number) in day.corrections.iter_mut().zip(numbers) {
+        correction.number = number;
+    }
+    day
+}
+
+fn with_equal_corrections(mut day: Day) -> Day {
+    let first = day.corrections[0];
+    day.corrections.fill(first);
+    day
+}
+
+/// Days of 4,096 positions that are not like the others.
+fn other_days(random: &mut Random) -> Vec<(&'static str, Day)> {
+    let full = [MAX_MARKS, MAX_CORRECTIONS, MAX_POSITIONS];
+    let of = |random: &mut Random, codes: &[[u8; 2]]| {
+        let products: Vec<Product> = PRODUCTS.iter().filter(|product| codes.contains(&product.code)).copied().collect();
+        with_distinct_numbers(day_of_products(random, &products, full))
+    };
+    vec![
+        ("some resent", day_of_products(random, &PRODUCTS, full)),
+        ("equal corrections", with_equal_corrections(day_of_products(random, &PRODUCTS, full))),
+        ("one bucket", with_one_bucket(day_of_products(random, &PRODUCTS, full))),
+        ("bills only", of(random, &[*b"IR", *b"BB"])),
+        ("longest bonds only", of(random, &[*b"XX"])),
+        ("1 mark", with_distinct_numbers(day_of(random, 1, MAX_CORRECTIONS, MAX_POSITIONS))),
+        ("1 mark, uncorrected", day_of(random, 1, 0, MAX_POSITIONS)),
+    ]
+}
+
 fn print_settle() {
     println!("settle: {MAX_MARKS} marks, {MAX_CORRECTIONS} corrections, N positions; microseconds for a file, and ratios of times");
     println!("{:>21} {:>9} {:>9} {:>9} {:>9} {:>9}", "N", "proved", "plain", "ratio", "hashed", "ratio");
@@ -82,10 +116,9 @@ fn print_settle() {
         growth = std::array::from_fn(|i| times[i] / last[i]);
         last = times;
     }
-    let copies = day_of(&mut random, MAX_MARKS, MAX_CORRECTIONS, MAX_POSITIONS);
-    print_settle_row("4096, some resent", settle_times(&copies));
-    let marks_alone = day_of(&mut random, 1, 0, MAX_POSITIONS);
-    print_settle_row("4096, 1 mark alone", settle_times(&marks_alone));
+    for (label, day) in other_days(&mut random) {
+        print_settle_row(label, settle_times(&day));
+    }
     let [proved, plain, hashed] = growth;
     println!("growth from N = 2048 to 4096: proved {proved:.2}, plain {plain:.2}, hashed {hashed:.2} times\n");
 }

@@ -16,8 +16,8 @@ pub fn price(random: &mut Random, product: &Product) -> u32 {
     tick * product.tick
 }
 
-fn mark(random: &mut Random) -> Mark {
-    let product = &PRODUCTS[random.below(PRODUCTS.len())];
+fn mark(random: &mut Random, products: &[Product]) -> Mark {
+    let product = &products[random.below(products.len())];
     Mark {
         code: product.code,
         month: random.pick(product.months),
@@ -28,11 +28,11 @@ fn mark(random: &mut Random) -> Mark {
 }
 
 /// Marks of different contracts.
-fn marks(random: &mut Random, count: usize) -> Vec<Mark> {
+fn marks(random: &mut Random, products: &[Product], count: usize) -> Vec<Mark> {
     let mut seen = HashSet::new();
     let mut marks = Vec::with_capacity(count);
     while marks.len() < count {
-        let mark = mark(random);
+        let mark = mark(random, products);
         if seen.insert((mark.code, mark.month, mark.year)) {
             marks.push(mark);
         }
@@ -74,7 +74,13 @@ fn position(random: &mut Random, marks: usize) -> Position {
 
 /// A day with these counts that passes every check. Without marks it has no corrections and no positions.
 pub fn day_of(random: &mut Random, mark_count: usize, correction_count: usize, position_count: usize) -> Day {
-    let marks = marks(random, mark_count);
+    day_of_products(random, &PRODUCTS, [mark_count, correction_count, position_count])
+}
+
+/// The same, with marks of some products only.
+pub fn day_of_products(random: &mut Random, products: &[Product], counts: [usize; 3]) -> Day {
+    let [mark_count, correction_count, position_count] = counts;
+    let marks = marks(random, products, mark_count);
     if marks.is_empty() {
         return Day::default();
     }

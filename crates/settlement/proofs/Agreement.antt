@@ -23,7 +23,7 @@ use Rattle.settlement.specs.declared.checks.Check.{Check}
 use Rattle.settlement.specs.declared.checks.Check.the-variants as check
 use Rattle.numbers.proofs.Truth.{Tells, not-both, tells-as, tells-or, tells-and, tells-not, tells-lt, tells-le, tells-eq, tells-less}
 use Rattle.numbers.proofs.Truth.{tells-some}
-use Rattle.settlement.proofs.Wall.{tells-missing, tells-quoted, tells-off-tick}
+use Rattle.settlement.proofs.Pricing.{tells-missing, tells-quoted, tells-off-tick}
 
 above : (p : ℕ) → Tells (aboveLimit p) (priceLimit < p)
 above p = tells-lt priceLimit p

@@ -9,7 +9,7 @@ use borrow.Author.Tests.{ltb-true, ltb-false}
 use lib.ListN.{length, getD, drop, replicate, length-replicate}
 use lib.Seq.{getD-append-add, getD-drop}
 use lib.IntN.{ℤ, pos, natAbs, _-ℤ_, +ℤ-invr}
-use Rattle.settlement.proofs.Wall.{worth-bound}
+use Rattle.settlement.proofs.Pricing.{worth-bound}
 use Rattle.numbers.specs.Folds.{table}
 use Rattle.settlement.specs.Records.{markAt}
 use Rattle.settlement.specs.Limits.{fileLimits}

@@ -1,12 +1,12 @@
 -- The first correction that clashes with an earlier one is found by looking at the last earlier one with the same number.
-use mathlib.Core.Path.{_≡_, refl, sym, ap, _∙_}
+use mathlib.Core.Path.{_≡_, refl}
 use mathlib.Core.Bool.{Bool, true, false, not, _&&_, _||_}
 use mathlib.Core.List.{List}
-use Prim.Native.Nat.{ℕ, zero, suc, _≤_, _<_}
+use Prim.Native.Nat.{ℕ, zero, suc, _<_}
 use native.Mathlib.Omega.{arith}
 use lib.Dec.{eqb, ltb}
 use borrow.Author.Tests.{eqb-true, eqb-false, ltb-true, ltb-false}
-use Rattle.numbers.specs.Folds.{first, some, last}
+use Rattle.numbers.specs.Folds.{first, last}
 use Rattle.settlement.specs.Records.{correctionAt}
 use Rattle.settlement.specs.Faults.{clashing, sameNumber}
 use Rattle.settlement.specs.Checks.{clashPair, numberPair, repeating}

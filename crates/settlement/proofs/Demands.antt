@@ -28,7 +28,7 @@ use Rattle.settlement.specs.Resend.{SentAgain, correctionRecords, Resent
 use Rattle.settlement.specs.declared.records.Mark.{Mark}
 use Rattle.settlement.specs.declared.records.Correction.{Correction}
 use Rattle.settlement.specs.declared.checks.Verdict.the-variants.{Passed}
-use Rattle.settlement.proofs.Wall as pricing
+use Rattle.settlement.proofs.Pricing as pricing
 use Rattle.settlement.proofs.Corrections as corrections
 use Rattle.numbers.proofs.Counting as counting
 use Rattle.settlement.proofs.FinalPrices as prices

@@ -24,4 +24,4 @@ pub mod Pairs
 pub mod Clashes
 pub mod Told
 pub mod Fields
-pub mod Wall
+pub mod Pricing

@@ -11,7 +11,7 @@ use Rattle.numbers.specs.Folds.{sum}
 use Rattle.settlement.specs.Limits.{Limits}
 use Rattle.settlement.specs.Layout.{listsOfFile}
 use Rattle.settlement.specs.Products.{currencyOf}
-use Rattle.settlement.specs.Settling.{keepOf, amountOf, shareOf, totalOf, changeIn, resentOf, markIn, settled, refused, totals, Plan, accept, refuse, answerBy, paidBy, planOf, answerOf, amountsAfter}
+use Rattle.settlement.specs.Settling.{keepOf, amountOf, shareOf, totalOf, changeIn, markIn, settled, refused, totals, Plan, accept, refuse, answerBy, paidBy, planOf, answerOf, amountsAfter}
 use Rattle.numbers.proofs.Tables.{entry, length-front, drop-front}
 use Rattle.settlement.proofs.Accepted.{mark-in}
 use Rattle.settlement.proofs.Totals.{total-is}
@@ -46,9 +46,6 @@ module _ (l : Limits) (f : List ℕ) (a : List ℤ) where
 
     pub has-room : n ≤ length a
     has-room = rw (← counted) (accepted .room)
-
-    pub resent-is : resentOf (listsOfFile f .corrections) ≡ k
-    resent-is = let t = is-totals in cc
 
     total-was : (wanted : Currency) → totalOf (listsOfFile f .marks) (listsOfFile f .positions) (changeIn (listsOfFile f)) wanted ≡ ofTwo wanted x y
     total-was Nzd = let t = is-totals in cc

@@ -20,7 +20,7 @@ use Rattle.settlement.specs.declared.checks.Verdict.the-variants.{Passed
 use Rattle.numbers.proofs.Searches.{first-clear, or-none}
 use Rattle.settlement.proofs.Accepted.{clear, mark-in}
 use Rattle.settlement.proofs.FinalPrices.{final-price-is}
-use Rattle.settlement.proofs.Wall.{valued, worth-is}
+use Rattle.settlement.proofs.Pricing.{valued, worth-is}
 
 -- a price that passes 6 and 7 for a mark
 record Allowed (m : Mark) (p : ℕ) : Type 0 where

@@ -1,5 +1,4 @@
 use Rattle.settlement.specs.Checks.{verdictOf}
-use borrow.Author.Needs.{needs}
 use Rattle.settlement.proofs.checks.checked.Statement.{statement}
 use Rattle.settlement.proofs.checks.checked.Tie as tie
 

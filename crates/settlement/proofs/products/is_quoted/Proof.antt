@@ -1,5 +1,5 @@
 use mathlib.Core.Path.{refl}
-use Rattle.settlement.proofs.Wall.{by-lookup}
+use Rattle.settlement.proofs.Pricing.{by-lookup}
 use Rattle.settlement.specs.Products.{quoted, quotedIn}
 use borrow.Author.Needs.{needs}
 use Rattle.settlement.proofs.products.is_quoted.Statement.{statement}

@@ -1,6 +1,6 @@
 use native.Mathlib.Omega.{arith}
 use mathlib.Core.Path.{refl}
-use Rattle.settlement.proofs.Wall.{by-lookup, tick-positive}
+use Rattle.settlement.proofs.Pricing.{by-lookup, tick-positive}
 use Rattle.settlement.specs.Products.{tickOf, tickIn}
 use borrow.Author.Needs.{needs}
 use Rattle.settlement.proofs.products.tick.Statement.{statement}

@@ -1,4 +1,4 @@
-use Rattle.settlement.proofs.Wall.{by-value}
+use Rattle.settlement.proofs.Pricing.{by-value}
 use borrow.Author.Needs.{needs}
 use Rattle.settlement.proofs.products.values.Statement.{statement}
 use Rattle.settlement.proofs.products.values.Tie as tie
