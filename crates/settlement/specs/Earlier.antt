@@ -7,6 +7,7 @@ use mathlib.Core.List.{List}
 use lib.ListN.{length}
 use Rattle.numbers.specs.Folds.{first, last, Holds}
 use Rattle.numbers.specs.Bytes.{joined}
+use Rattle.settlement.specs.Limits.{fileLimits}
 use Rattle.settlement.specs.Records.{Lists, marksIn, correctionsIn, markAt, correctionAt}
 use Rattle.settlement.specs.Checks.{contractPair, clashPair, numberPair, pairing, ruleOf}
 use Rattle.settlement.specs.Steps.{Small}
@@ -17,6 +18,10 @@ use Rattle.settlement.specs.declared.checks.Check.the-variants as check
 use Rattle.numbers.specs.declared.Found.the-variants.{Nothing}
 use Rattle.settlement.specs.declared.checks.Pair.{Pair}
 use Rattle.settlement.specs.declared.checks.Pair.the-variants.{Contract, Clash, Number}
+
+-- the most records of a section in which pairs are looked for
+abbrev pub longest : ℕ
+longest = fileLimits .corrections
 
 -- one of 4,096 buckets for a key: the twelve highest of the 32 low bits of a product
 unfoldable pub scattered : ℕ → ℕ

@@ -81,8 +81,8 @@ fn clashes_below(corrections: &[u8], i: usize, k: usize) -> bool
 }
 
 // No earlier records.
-fn none_earlier() -> [u16; DayFile::MAX_POSITIONS] {
-    [0u16; DayFile::MAX_POSITIONS]
+fn none_earlier() -> [u16; DayFile::MAX_CORRECTIONS] {
+    [0u16; DayFile::MAX_CORRECTIONS]
 }
 
 // What a check is told of earlier records.
@@ -91,7 +91,7 @@ fn told(
     corrections: &[u8],
     positions: &[u8],
     c: Check,
-) -> [u16; DayFile::MAX_POSITIONS]
+) -> [u16; DayFile::MAX_CORRECTIONS]
     requires { ⌜ Small (listsOf (now marks) (now corrections) (now positions)) ⌝ }
     ensures { λ r. ⌜ Told (listsOf (now (marks .entry)) (now (corrections .entry)) (now (positions .entry))) c r ⌝ }
 {
@@ -116,7 +116,7 @@ fn fails(
     marks: &[u8],
     corrections: &[u8],
     positions: &[u8],
-    earlier: &[u16; DayFile::MAX_POSITIONS],
+    earlier: &[u16; DayFile::MAX_CORRECTIONS],
     c: Check,
     i: usize,
 ) -> bool

@@ -5,7 +5,7 @@ use native.Mathlib.Nat.{le-antisymm}
 use lib.ListN.{length, length-set}
 use Rattle.numbers.specs.Folds.{Holds}
 use Rattle.numbers.specs.Buckets.{headOf, linkOf}
-use Rattle.settlement.specs.Earlier.{bucketOf, earlierOf}
+use Rattle.settlement.specs.Earlier.{longest, bucketOf, earlierOf}
 use Rattle.numbers.proofs.Held.{holds-none, holds-more}
 use Rattle.numbers.proofs.Buckets.{head-more, head-none, link-more}
 use borrow.Author.Needs.{needs}
@@ -14,7 +14,7 @@ use Rattle.settlement.proofs.earlier.earlier.Tie as tie
 
 abbrev Inv-loop : tie.InvT-loop
 Inv-loop section p n head₀ link₀ found₀ i₀ head link found i =
-    ((i ≤ n) × (length head ≡ 4096) × (length link ≡ 4096) × (length found ≡ 4096))
+    ((i ≤ n) × (length head ≡ 4096) × (length link ≡ longest) × (length found ≡ longest))
     × Holds 0 (headOf (bucketOf section p) i) 4096 head × Holds 0 (linkOf (bucketOf section p)) i link × Holds 0 (earlierOf section p) i found
 
 abbrev μ-loop : tie.MeasureT-loop
