@@ -11,7 +11,8 @@ use Rattle.text.proofs.Writing.{wrote-none, writes-as}
 use Rattle.settlement.specs.Limits.{fileLimits}
 use Rattle.settlement.specs.Settling.{said, planOf, answerOf, amountsAfter}
 use Rattle.settlement.specs.declared.settling.Settlement.{Settlement}
-use Rattle.report.specs.Sheet.{answerText, positionsText, sheetOf, sheetSize, sheetWithin, amountsWithin, Bytes}
+use Rattle.numbers.specs.Bytes.{Bytes}
+use Rattle.report.specs.Sheet.{answerText, positionsText, sheetOf, sheetSize, sheetWithin, amountsWithin}
 use Rattle.report.proofs.Fits.{sheet-fits}
 
 -- a buffer that may be too short
