@@ -86,7 +86,7 @@ fn with_equal_corrections(mut day: Day) -> Day {
     day
 }
 
-/// Days of 4,096 positions that are not like the others.
+/// Days that are not like the others, of 4,096 positions but for the last.
 fn other_days(random: &mut Random) -> Vec<(&'static str, Day)> {
     let full = [MAX_MARKS, MAX_CORRECTIONS, MAX_POSITIONS];
     let of = |random: &mut Random, codes: &[[u8; 2]]| {
@@ -101,6 +101,7 @@ fn other_days(random: &mut Random) -> Vec<(&'static str, Day)> {
         ("longest bonds only", of(random, &[*b"XX"])),
         ("1 mark", with_distinct_numbers(day_of(random, 1, MAX_CORRECTIONS, MAX_POSITIONS))),
         ("1 mark, uncorrected", day_of(random, 1, 0, MAX_POSITIONS)),
+        ("1 mark, 2 positions", day_of(random, 1, 2, 2)),
     ]
 }
 
