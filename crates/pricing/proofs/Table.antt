@@ -18,14 +18,15 @@ use Rattle.pricing.specs.declared.products.Found.{Found}
 use Rattle.pricing.specs.declared.products.Found.the-variants.{At, Missing}
 
 -- a search from line i on finds that line where it has the code, and else what a search from the next line on finds
-module _ (qs : List Product) (i : ℕ) (a : Code) (h : i < length qs) where
-  pub find-here : sameCode a (getD qs i noProduct .code) ≡ true → findIn (drop i qs) a ≡ At (getD qs i noProduct)
+module _ (qs : List Product) (i : ℕ) (a : Code) {q : Product} {b : Bool} {f : Found}
+    (h : i < length qs) (is : q ≡ getD qs i noProduct) (test : b ≡ sameCode a (q .code)) (from : findIn (drop i qs) a ≡ f) where
+  pub find-here : b ≡ true → At q ≡ f
   unfolding findIn
-  find-here e = rw (drop-cons qs i noProduct, e)
+  find-here e = rw is (sym (rw (drop-cons qs i noProduct, ← is, ← test, e)) ∙ from)
 
-  pub find-next : sameCode a (getD qs i noProduct .code) ≡ false → findIn (drop i qs) a ≡ findIn (drop (i + 1) qs) a
+  pub find-next : b ≡ false → findIn (drop (i + 1) qs) a ≡ f
   unfolding findIn
-  find-next e = rw (add-one, drop-cons qs i noProduct, e)
+  find-next e = sym (rw (add-one, drop-cons qs i noProduct, ← is, ← test, e)) ∙ from
 
 -- what holds of every line of a table holds of the line that a code names
 abbrev pub Every : (Product → Type 0) → List Product → Type 0
