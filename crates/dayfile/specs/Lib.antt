@@ -1,10 +1,5 @@
 pub mod Limits
 pub mod Records
 pub mod Layout
-pub mod Products
-pub mod Faults
-pub mod Checks
-pub mod Judging
-pub mod Steps
-pub mod Earlier
 pub mod Making
+pub mod Steps

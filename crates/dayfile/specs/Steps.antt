@@ -1,15 +1,12 @@
--- What the steps of the checks ask of each other.
+-- Files and lists within the limits.
 use mathlib.Core.Path.{_≡_}
 use Prim.Native.Nat.{ℕ, _≤_}
-use mathlib.Core.Bool.{Bool, cond}
 use mathlib.Core.List.{List}
 use lib.ListN.{length}
 use Rattle.dayfile.specs.Limits.{fileLimits}
 use Rattle.dayfile.specs.Records.{Lists}
 use Rattle.dayfile.specs.Layout.{lengthOf}
-use Rattle.dayfile.specs.Checks.{verdictOf}
 use Rattle.dayfile.specs.declared.file.DayFile.{DayFile}
-use Rattle.dayfile.specs.declared.checks.Verdict.the-variants.{Passed}
 
 -- the counts are within the file's limits
 pub record Limited (d : DayFile) : Type 0 where
@@ -27,12 +24,3 @@ pub record Small (l : Lists) : Type 0 where
   pub marks : length (l .marks) ≤ fileLimits .marks
   pub corrections : length (l .corrections) ≤ fileLimits .corrections
   pub positions : length (l .positions) ≤ fileLimits .positions
-
--- whose records passed
-pub record Accepted (l : Lists) : Type 0 where
-  pub small : Small l
-  pub passed : verdictOf l ≡ Passed
-
--- 1 where a test is passed
-abbrev pub bit : Bool → ℕ
-bit b = cond b 1 0

@@ -1,18 +1,11 @@
-// The day file: its layout, its records, and the checks that it must pass to be settled.
+// The day file: its layout and its records.
 mod bytes;
-mod checks;
-mod earlier;
-mod faults;
 mod file;
-mod judging;
-mod products;
 mod records;
 
 pub use file::DayFile;
 pub use file::Opened;
 pub use file::open_file;
-pub use judging::Judged;
-pub use judging::judge;
 pub use records::Correction;
 pub use records::Mark;
 pub use records::Position;

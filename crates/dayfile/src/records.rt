@@ -1,6 +1,6 @@
 // The records of a day file, read from a section's bytes.
-use crate::bytes::as_signed;
 use crate::bytes::u32_at;
+use numbers::as_signed;
 use pricing::Code;
 ghost use mathlib.Core.Path.{_≡_};
 ghost use Prim.Native.Nat.{_≤_, _/_};

@@ -10,9 +10,9 @@ use Rattle.pricing.specs.Calls.{judged, valueOf}
 use Rattle.numbers.specs.Bytes.{u32At, u32Bytes, signed, recordsOf}
 use Rattle.numbers.specs.Folds.{first, some}
 use Rattle.dayfile.specs.Records.{markAt, correctionAt, positionAt}
-use Rattle.dayfile.specs.Products.{listed, quoted, tickOf}
+use Rattle.checks.specs.Products.{listed, quoted, tickOf}
 use Rattle.settlement.specs.Products.{currencyOf, worthOf}
-use Rattle.dayfile.specs.Checks.{verdictOf}
+use Rattle.checks.specs.Checks.{verdictOf}
 use Rattle.dayfile.specs.Layout.{countsOf, openedOf}
 use Rattle.settlement.specs.Prices.{latestOf, finalOf, changeOf}
 use Rattle.settlement.specs.Settling.{amountOf, totalOf, planOf, answerOf}

@@ -14,10 +14,10 @@ use Rattle.pricing.specs.declared.products.Currency.the-variants.{Aud, Nzd}
 use Rattle.numbers.specs.Folds.{count}
 use Rattle.dayfile.specs.Limits.{fileLimits}
 use Rattle.dayfile.specs.Records.{Lists, positionAt, markSize, positionSize}
-use Rattle.dayfile.specs.Checks.{numberPair, repeating, ruleOf, numberOf, verdictOf}
+use Rattle.checks.specs.Checks.{numberPair, repeating, ruleOf, numberOf, verdictOf}
 use Rattle.dayfile.specs.Layout.{openedOf, listsIn, listsOfFile, countsOf, headerSize, positionsStart, markBytes, positionBytes}
 use Rattle.settlement.specs.Conditions.{Reason, Short, Counts, Layout, Record, Room, Holds, reasonNumber}
-use Rattle.dayfile.specs.Judging.{resentOf}
+use Rattle.checks.specs.Judging.{resentOf}
 use Rattle.settlement.specs.Settling.{refused, accept, refuse, listsPlan, planOf, answerBy, answerOf, amountOf, changeIn, totalOf, shareOf, totals}
 use Rattle.dayfile.specs.Steps.{Small, LaidOut}
 use Rattle.settlement.specs.Steps.{amountCap}
@@ -25,11 +25,11 @@ use Rattle.dayfile.specs.declared.records.Correction.{Correction}
 use Rattle.dayfile.specs.declared.file.DayFile.{DayFile}
 use Rattle.dayfile.specs.declared.file.Opened.{Opened}
 use Rattle.dayfile.specs.declared.file.Opened.the-variants.{File, Refused}
-use Rattle.dayfile.specs.declared.checks.Check.{Check}
-use Rattle.dayfile.specs.declared.checks.Check.the-variants as check
-use Rattle.dayfile.specs.declared.checks.Verdict.{Verdict}
-use Rattle.dayfile.specs.declared.checks.Verdict.the-variants.{Passed, Failed}
-use Rattle.dayfile.proofs.Passed.{mark-in, lots-in}
+use Rattle.checks.specs.declared.order.Check.{Check}
+use Rattle.checks.specs.declared.order.Check.the-variants as check
+use Rattle.checks.specs.declared.order.Verdict.{Verdict}
+use Rattle.checks.specs.declared.order.Verdict.the-variants.{Passed, Failed}
+use Rattle.checks.proofs.Passed.{mark-in, lots-in}
 use Rattle.dayfile.proofs.Parts.{small}
 use Rattle.settlement.proofs.Changes.{change-bound}
 use Rattle.settlement.proofs.Sizes.{product-small, sum-small, keep-small}

@@ -17,10 +17,10 @@ use Rattle.settlement.specs.Settling.{Plan, accept, refuse, listsPlan, planFor,
 use Rattle.dayfile.specs.declared.file.DayFile.{DayFile}
 use Rattle.dayfile.specs.declared.file.Opened.{Opened}
 use Rattle.dayfile.specs.declared.file.Opened.the-variants.{File, Refused}
-use Rattle.dayfile.specs.declared.checks.Verdict.{Verdict}
-use Rattle.dayfile.specs.declared.checks.Verdict.the-variants.{Passed, Failed}
+use Rattle.checks.specs.declared.order.Verdict.{Verdict}
+use Rattle.checks.specs.declared.order.Verdict.the-variants.{Passed, Failed}
 use Rattle.settlement.specs.declared.settling.Settlement.{Settlement}
-use Rattle.dayfile.specs.Checks.{verdictOf}
+use Rattle.checks.specs.Checks.{verdictOf}
 use Rattle.numbers.proofs.Tables.{entry}
 use Rattle.report.specs.Lines.{positionLine}
 use Rattle.report.specs.Sheet.{positionsText}

@@ -11,14 +11,14 @@ use borrow.Author.Tests.{ltb-false, le-ltb}
 use Rattle.dayfile.specs.Limits.{Limits}
 use Rattle.dayfile.specs.Records.{Lists}
 use Rattle.dayfile.specs.Layout.{listsOfFile, openedOf, listsIn}
-use Rattle.dayfile.specs.Checks.{verdictOf}
-use Rattle.dayfile.specs.Steps.{Accepted}
+use Rattle.checks.specs.Checks.{verdictOf}
+use Rattle.checks.specs.Steps.{Accepted}
 use Rattle.dayfile.specs.declared.file.Opened.{Opened}
 use Rattle.dayfile.specs.declared.file.Opened.the-variants.{File, Refused}
-use Rattle.dayfile.specs.declared.checks.Verdict.{Verdict}
-use Rattle.dayfile.specs.declared.checks.Verdict.the-variants.{Passed, Failed}
+use Rattle.checks.specs.declared.order.Verdict.{Verdict}
+use Rattle.checks.specs.declared.order.Verdict.the-variants.{Passed, Failed}
 use Rattle.dayfile.proofs.Opening.{Laid, opens, laid-opens}
-use Rattle.dayfile.proofs.Passed.{mark-in, lots-in}
+use Rattle.checks.proofs.Passed.{mark-in, lots-in}
 use Rattle.settlement.specs.Settling.{settled, accept, refuse, listsPlan, openedPlan, planOf, answerBy, answerOf}
 use Rattle.settlement.specs.Steps.{Payable}
 

@@ -12,15 +12,15 @@ use Rattle.pricing.specs.Prices.{priceLimit}
 use Rattle.pricing.specs.declared.products.Code.{Code}
 use Rattle.dayfile.specs.Limits.{yearLimit, lotsLimit}
 use Rattle.dayfile.specs.Records.{Lists, markAt, correctionAt, positionAt}
-use Rattle.dayfile.specs.Products.{aboveLimit, quoted}
+use Rattle.checks.specs.Products.{aboveLimit, quoted}
 use Rattle.numbers.specs.Integers.{isZero}
-use Rattle.dayfile.specs.Faults.{offTick, sameContract, clashing}
-use Rattle.dayfile.specs.Checks.{ruleOf, contractPair, clashPair}
+use Rattle.checks.specs.Faults.{offTick, sameContract, clashing}
+use Rattle.checks.specs.Checks.{ruleOf, contractPair, clashPair}
 use Rattle.settlement.specs.Conditions.{OffTick, SameContract, Clash, Wrong}
 use Rattle.dayfile.specs.declared.records.Mark.{Mark}
 use Rattle.dayfile.specs.declared.records.Correction.{Correction}
-use Rattle.dayfile.specs.declared.checks.Check.{Check}
-use Rattle.dayfile.specs.declared.checks.Check.the-variants as check
+use Rattle.checks.specs.declared.order.Check.{Check}
+use Rattle.checks.specs.declared.order.Check.the-variants as check
 use Rattle.numbers.proofs.Truth.{Tells, not-both, tells-as, tells-or, tells-and, tells-not, tells-lt, tells-le, tells-eq, tells-less}
 use Rattle.numbers.proofs.Truth.{tells-some}
 use Rattle.settlement.proofs.Pricing.{tells-missing, tells-quoted, tells-off-tick}

@@ -13,9 +13,9 @@ use Rattle.numbers.specs.Bytes.{u32At, signed, recordsOf, u32Bytes}
 use Rattle.numbers.specs.Folds.{first, some}
 use Rattle.dayfile.specs.Limits.{fileLimits}
 use Rattle.dayfile.specs.Records.{markAt, correctionAt, positionAt}
-use Rattle.dayfile.specs.Products.{listed, quoted, tickOf}
+use Rattle.checks.specs.Products.{listed, quoted, tickOf}
 use Rattle.settlement.specs.Products.{currencyOf, worthOf}
-use Rattle.dayfile.specs.Checks.{verdictOf}
+use Rattle.checks.specs.Checks.{verdictOf}
 use Rattle.dayfile.specs.Layout.{countsOf, openedOf}
 use Rattle.settlement.specs.Prices.{latestOf, finalOf, changeOf}
 use Rattle.settlement.specs.Settling.{amountOf, totalOf, settled, refused, planOf, answerOf, amountsAfter}

@@ -9,15 +9,15 @@ use lib.IntN.{ℤ}
 use Rattle.dayfile.specs.Limits.{Limits, fileLimits}
 use Rattle.dayfile.specs.Records.{Lists}
 use Rattle.dayfile.specs.Layout.{openedOf, listsIn}
-use Rattle.dayfile.specs.Checks.{verdictOf}
-use Rattle.dayfile.specs.Judging.{resentOf, judgedBy, judgedOpened, judgedOf}
+use Rattle.checks.specs.Checks.{verdictOf}
+use Rattle.checks.specs.Judging.{resentOf, judgedBy, judgedOpened, judgedOf}
 use Rattle.dayfile.specs.declared.file.DayFile.{DayFile}
 use Rattle.dayfile.specs.declared.file.Opened.{Opened}
 use Rattle.dayfile.specs.declared.file.Opened.the-variants as opened
-use Rattle.dayfile.specs.declared.checks.Verdict.{Verdict}
-use Rattle.dayfile.specs.declared.checks.Verdict.the-variants.{Passed, Failed}
-use Rattle.dayfile.specs.declared.judging.Judged.{Judged}
-use Rattle.dayfile.specs.declared.judging.Judged.the-variants as judged
+use Rattle.checks.specs.declared.order.Verdict.{Verdict}
+use Rattle.checks.specs.declared.order.Verdict.the-variants.{Passed, Failed}
+use Rattle.checks.specs.declared.judging.Judged.{Judged}
+use Rattle.checks.specs.declared.judging.Judged.the-variants as judged
 use Rattle.dayfile.proofs.Opening.{laid-out}
 use Rattle.dayfile.proofs.Parts.{small}
 use Rattle.settlement.specs.Settling.{settled, said, Plan, accept, refuse, roomPlan, listsPlan, openedPlan, planOf, answerOf, amountsAfter}

@@ -21,7 +21,7 @@ use Rattle.pricing.specs.Prices.{priceLimit}
 use Rattle.pricing.specs.Value.{exactOf}
 use Rattle.pricing.specs.Accuracy.{accuracyOf}
 use Rattle.pricing.specs.Value.{valueCap}
-use Rattle.dayfile.specs.Products.{listed, listedIn, quoted, quotedIn, tickOf, tickIn}
+use Rattle.checks.specs.Products.{listed, listedIn, quoted, quotedIn, tickOf, tickIn}
 use Rattle.settlement.specs.Products.{orZero, worthOf}
 use Rattle.settlement.specs.Conditions.{Quoted}
 use Rattle.numbers.proofs.Truth.{Tells, not-both, tells-as, tells-not, tells-divides}

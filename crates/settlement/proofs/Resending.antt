@@ -8,14 +8,14 @@ use lib.IntN.{ℤ}
 use lib.ListN.{length, getD, take, length-map, List·getD-map}
 use Rattle.numbers.specs.Bytes.{u32At}
 use Rattle.dayfile.specs.Records.{Lists, correctionAt, correctionOf, marksIn, positionsIn}
-use Rattle.dayfile.specs.Checks.{verdictOf}
+use Rattle.checks.specs.Checks.{verdictOf}
 use Rattle.dayfile.specs.Limits.{Limits}
 use Rattle.dayfile.specs.Layout.{listsOfFile, countsOf}
 use Rattle.settlement.specs.Prices.{AllIn, changeOf}
-use Rattle.dayfile.specs.Judging.{resentOf}
+use Rattle.checks.specs.Judging.{resentOf}
 use Rattle.settlement.specs.Settling.{amountOf, changeIn, Answer, settled, refused, accept, answerOf, amountsAfter, totals}
 use Rattle.settlement.specs.Resend.{SentAgain, end, kept, copy, correctionRecords, Resent}
-use Rattle.dayfile.specs.declared.checks.Verdict.the-variants.{Passed}
+use Rattle.checks.specs.declared.order.Verdict.the-variants.{Passed}
 use Rattle.numbers.proofs.Tables.{take-front}
 use Rattle.settlement.proofs.Corrections.{listsWith, apart, still-passes}
 use Rattle.settlement.proofs.FinalPrices.{same-finals}

@@ -13,7 +13,7 @@ use Rattle.dayfile.specs.Layout.{listsOfFile}
 use Rattle.settlement.specs.Products.{currencyOf}
 use Rattle.settlement.specs.Settling.{keepOf, amountOf, shareOf, totalOf, changeIn, markIn, settled, refused, totals, Plan, accept, refuse, answerBy, paidBy, planOf, answerOf, amountsAfter}
 use Rattle.numbers.proofs.Tables.{entry, length-front, drop-front}
-use Rattle.dayfile.proofs.Passed.{mark-in}
+use Rattle.checks.proofs.Passed.{mark-in}
 use Rattle.settlement.proofs.Totals.{total-is}
 use Rattle.numbers.proofs.SignedSums.{sum-below}
 use Rattle.settlement.proofs.Accepted.{AcceptedFile, accepted-plan, settled-accepted}

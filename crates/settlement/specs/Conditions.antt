@@ -17,11 +17,11 @@ use Rattle.numbers.specs.Bytes.{u32At}
 use Rattle.dayfile.specs.Limits.{Limits, yearLimit, lotsLimit}
 use Rattle.dayfile.specs.Records.{Lists, markAt, correctionAt, positionAt}
 use Rattle.dayfile.specs.Layout.{headerSize, countsOf, correctionsStart, positionsStart, lengthOf, listsOfFile}
-use Rattle.dayfile.specs.Checks.{ruleOf, numberOf, order}
+use Rattle.checks.specs.Checks.{ruleOf, numberOf, order}
 use Rattle.dayfile.specs.declared.records.Mark.{Mark}
 use Rattle.dayfile.specs.declared.records.Correction.{Correction}
-use Rattle.dayfile.specs.declared.checks.Check.{Check}
-use Rattle.dayfile.specs.declared.checks.Check.the-variants as check
+use Rattle.checks.specs.declared.order.Check.{Check}
+use Rattle.checks.specs.declared.order.Check.the-variants as check
 
 -- ---- the words
 

@@ -11,8 +11,8 @@ use Rattle.settlement.specs.Products.{currencyOf}
 use Rattle.numbers.specs.Folds.{front, sum}
 use Rattle.dayfile.specs.Limits.{Limits}
 use Rattle.dayfile.specs.Records.{Lists, markAt, positionAt}
-use Rattle.dayfile.specs.Checks.{verdictOf, numberOf}
-use Rattle.dayfile.specs.Judging.{resentOf}
+use Rattle.checks.specs.Checks.{verdictOf, numberOf}
+use Rattle.checks.specs.Judging.{resentOf}
 use Rattle.dayfile.specs.Layout.{openedOf, listsIn, listsOfFile}
 use Rattle.settlement.specs.Prices.{finalOf, changeOf}
 use Rattle.dayfile.specs.declared.records.Mark.{Mark}
@@ -20,8 +20,8 @@ use Rattle.dayfile.specs.declared.records.Correction.{Correction}
 use Rattle.dayfile.specs.declared.records.Position.{Position}
 use Rattle.dayfile.specs.declared.file.Opened.{Opened}
 use Rattle.dayfile.specs.declared.file.Opened.the-variants as opened
-use Rattle.dayfile.specs.declared.checks.Verdict.{Verdict}
-use Rattle.dayfile.specs.declared.checks.Verdict.the-variants.{Passed, Failed}
+use Rattle.checks.specs.declared.order.Verdict.{Verdict}
+use Rattle.checks.specs.declared.order.Verdict.the-variants.{Passed, Failed}
 use Rattle.settlement.specs.declared.settling.Settlement.{Settlement}
 use Rattle.settlement.specs.declared.settling.Settlement.the-variants.{Settled, Refused}
 

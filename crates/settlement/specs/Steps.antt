@@ -10,9 +10,10 @@ use Rattle.dayfile.specs.Limits.{fileLimits, lotsLimit}
 use Rattle.dayfile.specs.Records.{Lists, markAt, positionAt}
 use Rattle.dayfile.specs.Layout.{listsIn}
 use Rattle.settlement.specs.Products.{currencyOf}
-use Rattle.dayfile.specs.Checks.{verdictOf}
-use Rattle.dayfile.specs.Judging.{resentOf}
-use Rattle.dayfile.specs.Steps.{LaidOut, Accepted}
+use Rattle.checks.specs.Checks.{verdictOf}
+use Rattle.checks.specs.Judging.{resentOf}
+use Rattle.dayfile.specs.Steps.{LaidOut}
+use Rattle.checks.specs.Steps.{Accepted}
 use Rattle.settlement.specs.Prices.{latestOf, changeOf}
 use Rattle.settlement.specs.Settling.{keepOf, said, Plan, answerBy, paidBy}
 use Rattle.dayfile.specs.declared.records.Mark.{Mark}
@@ -21,7 +22,7 @@ use Rattle.dayfile.specs.declared.records.Position.{Position}
 use Rattle.dayfile.specs.declared.file.DayFile.{DayFile}
 use Rattle.settlement.specs.declared.prices.Latest.{Latest}
 use Rattle.settlement.specs.declared.prices.Latest.the-variants.{Never}
-use Rattle.dayfile.specs.declared.checks.Verdict.the-variants.{Passed}
+use Rattle.checks.specs.declared.order.Verdict.the-variants.{Passed}
 use Rattle.settlement.specs.declared.settling.Settlement.{Settlement}
 
 -- no change in value is larger

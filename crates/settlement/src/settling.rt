@@ -2,9 +2,9 @@
 use crate::amounts::pay;
 use crate::amounts::total;
 use crate::prices::changes;
+use checks::Judged;
+use checks::judge;
 use dayfile::DayFile;
-use dayfile::Judged;
-use dayfile::judge;
 use dayfile::position_count;
 use pricing::Currency;
 ghost use mathlib.Core.Path.{_≡_};

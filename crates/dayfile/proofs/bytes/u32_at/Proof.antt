@@ -8,7 +8,15 @@ unfolding u32At
 returns c = search needs
 
 pub u32-at-spec : {M : Type 1} → statement M
-u32-at-spec = tie.close
+u32-at-spec =
+    tie.close
     (tie.spec
+    (λ c. search needs)
+    (λ c. search needs)
+    (λ c. search needs)
+    (λ c. search needs)
+    (λ c. search needs)
+    (λ c. search needs)
+    (λ c. search needs)
     (λ c κs. search needs)
     returns)
