@@ -4,4 +4,3 @@ mod Judgements
 mod Pairs
 mod Clashes
 mod Told
-mod Verdicts

@@ -20,12 +20,12 @@ use dayfile::position_count;
 use numbers::Found;
 ghost use mathlib.Core.Path.{_≡_};
 ghost use mathlib.Core.Bool.{not};
-ghost use Prim.Native.Nat.{_<_};
 ghost use lib.Dec.{eqb};
-ghost use lib.ListN.{getD};
+ghost use mathlib.Core.List.{foldl};
 ghost use Rattle.dayfile.specs.Records.{correctionsIn, listsOf};
-ghost use Rattle.checks.specs.Checks.{pairing, ruleOf, findingOf, numberOf, order, verdictOf};
+ghost use Rattle.checks.specs.Checks.{pairing, ruleOf, findingOf, numberOf, thenCheck, verdictOf};
 ghost use Rattle.checks.specs.Earlier.{clashesBelow, Told, Reached};
+ghost use Rattle.checks.specs.Steps.{markOrder, correctionOrder};
 
 // The checks over the records of a section, in their order.
 pub enum Check {
@@ -148,35 +148,143 @@ fn first_failing(
     Found::Nothing
 }
 
-// The order in which the checks run.
-const ORDER: [Check; 10] = [
-    Check::Code,
-    Check::Date,
-    Check::PriceLimit,
-    Check::Tick,
-    Check::MarkRepeated,
-    Check::CorrectionMark,
-    Check::CorrectionPrice,
-    Check::CorrectionClash,
-    Check::PositionMark,
-    Check::Lots,
-];
-
-fn in_order(k: usize) -> Check
-    requires { ⌜ k < 10 ⌝ }
-    ensures { λ r. ⌜ r ≡ getD order k Check.Code ⌝ }
-{
-    ORDER[k]
-}
-
-// What the checks say.
+// What the checks so far say.
 pub enum Verdict {
     Passed,
     Failed(Check, usize),
 }
 
-// All checks over the records: the first that finds one decides. They are told, for each mark, which earlier mark is the last of the same contract,
-// and for each correction, which earlier one is the last with the same number.
+// One check more, where none has failed yet.
+fn then_check(
+    marks: &[u8],
+    corrections: &[u8],
+    positions: &[u8],
+    contracts: &[u16; DayFile::MAX_CORRECTIONS],
+    numbers: &[u16; DayFile::MAX_CORRECTIONS],
+    v: Verdict,
+    c: Check,
+) -> Verdict
+    requires { ⌜ Told (listsOf (now marks) (now corrections) (now positions)) (now contracts) (now numbers) ⌝ }
+    ensures { λ r. ⌜ r ≡ thenCheck (listsOf (now (marks .entry)) (now (corrections .entry)) (now (positions .entry))) v c ⌝ }
+{
+    match v {
+        Verdict::Failed(_, _) => v,
+        Verdict::Passed => match first_failing(
+            marks,
+            corrections,
+            positions,
+            contracts,
+            numbers,
+            c,
+        ) {
+            Found::At(i) => Verdict::Failed(c, i),
+            Found::Nothing => Verdict::Passed,
+        },
+    }
+}
+
+// The checks over the marks.
+fn checked_marks(
+    marks: &[u8],
+    corrections: &[u8],
+    positions: &[u8],
+    contracts: &[u16; DayFile::MAX_CORRECTIONS],
+    numbers: &[u16; DayFile::MAX_CORRECTIONS],
+) -> Verdict
+    requires { ⌜ Told (listsOf (now marks) (now corrections) (now positions)) (now contracts) (now numbers) ⌝ }
+    ensures { λ r. ⌜ r ≡ foldl (thenCheck (listsOf (now (marks .entry)) (now (corrections .entry)) (now (positions .entry)))) Verdict.Passed markOrder ⌝ }
+{
+    let v = Verdict::Passed;
+    let v = then_check(
+        marks,
+        corrections,
+        positions,
+        contracts,
+        numbers,
+        v,
+        Check::Code,
+    );
+    let v = then_check(
+        marks,
+        corrections,
+        positions,
+        contracts,
+        numbers,
+        v,
+        Check::Date,
+    );
+    let v = then_check(
+        marks,
+        corrections,
+        positions,
+        contracts,
+        numbers,
+        v,
+        Check::PriceLimit,
+    );
+    let v = then_check(
+        marks,
+        corrections,
+        positions,
+        contracts,
+        numbers,
+        v,
+        Check::Tick,
+    );
+    then_check(
+        marks,
+        corrections,
+        positions,
+        contracts,
+        numbers,
+        v,
+        Check::MarkRepeated,
+    )
+}
+
+// Then those over the corrections.
+fn checked_corrections(
+    marks: &[u8],
+    corrections: &[u8],
+    positions: &[u8],
+    contracts: &[u16; DayFile::MAX_CORRECTIONS],
+    numbers: &[u16; DayFile::MAX_CORRECTIONS],
+    v: Verdict,
+) -> Verdict
+    requires { ⌜ Told (listsOf (now marks) (now corrections) (now positions)) (now contracts) (now numbers) ⌝ }
+    ensures { λ r. ⌜ r ≡ foldl (thenCheck (listsOf (now (marks .entry)) (now (corrections .entry)) (now (positions .entry)))) v correctionOrder ⌝ }
+{
+    let v = then_check(
+        marks,
+        corrections,
+        positions,
+        contracts,
+        numbers,
+        v,
+        Check::CorrectionMark,
+    );
+    let v = then_check(
+        marks,
+        corrections,
+        positions,
+        contracts,
+        numbers,
+        v,
+        Check::CorrectionPrice,
+    );
+    then_check(
+        marks,
+        corrections,
+        positions,
+        contracts,
+        numbers,
+        v,
+        Check::CorrectionClash,
+    )
+}
+
+// All checks over the records, in their order. They are told, for each mark, which earlier mark is the last of the same contract, and for each
+// correction, which earlier one is the last with the same number.
 pub(crate) fn checked(
     marks: &[u8],
     corrections: &[u8],
@@ -187,15 +295,26 @@ pub(crate) fn checked(
     requires { ⌜ Told (listsOf (now marks) (now corrections) (now positions)) (now contracts) (now numbers) ⌝ }
     ensures { λ r. ⌜ r ≡ verdictOf (listsOf (now (marks .entry)) (now (corrections .entry)) (now (positions .entry))) ⌝ }
 {
-    let mut k = 0;
-    while k < 10 {
-        let c = in_order(k);
-        match first_failing(marks, corrections, positions, contracts, numbers, c) {
-            Found::At(i) => return Verdict::Failed(c, i),
-            Found::Nothing => k += 1,
-        }
-    }
-    Verdict::Passed
+    let v = checked_marks(marks, corrections, positions, contracts, numbers);
+    let v = checked_corrections(marks, corrections, positions, contracts, numbers, v);
+    let v = then_check(
+        marks,
+        corrections,
+        positions,
+        contracts,
+        numbers,
+        v,
+        Check::PositionMark,
+    );
+    then_check(
+        marks,
+        corrections,
+        positions,
+        contracts,
+        numbers,
+        v,
+        Check::Lots,
+    )
 }
 
 // Document 01's number of a check.
