@@ -3,7 +3,7 @@ ghost use mathlib.Core.Path.{_≡_};
 ghost use lib.ListN.{length};
 ghost use Rattle.pricing.specs.Calls.{said, valueOf, tickValueOf, bracketOf};
 ghost use Rattle.report.specs.Sheet.{sheetWithin, amountsWithin};
-ghost use Rattle.settlement.specs.Limits.{fileLimits};
+ghost use Rattle.dayfile.specs.Limits.{fileLimits};
 ghost use Rattle.settlement.specs.Settling.{answerOf, amountsAfter};
 ghost use Rattle.settlement.specs.Settling.{said as saidOfDay};
 ghost use Rattle.text.specs.Writing.{Wrote};

@@ -1,4 +1,8 @@
-// What carries no word of the trade: rounding, and the answer of a search. The laws are in proofs/.
+// What carries no word of the trade: rounding, numbers in bytes, and the answer of a search. The laws are in proofs/.
+mod words;
+
+pub use words::as_signed;
+pub use words::joined;
 ghost use mathlib.Core.Path.{_≡_};
 ghost use Rattle.numbers.specs.Rounding as rounding;
 

@@ -5,9 +5,9 @@ use Prim.Native.Nat.{ℕ}
 use lib.IntN.{ℤ}
 use Rattle.text.specs.Ascii.{ascii}
 use Rattle.text.specs.Decimal.{decimal}
-use Rattle.settlement.specs.Records.{markAt, positionAt}
-use Rattle.settlement.specs.declared.records.Mark.{Mark}
-use Rattle.settlement.specs.declared.records.Position.{Position}
+use Rattle.dayfile.specs.Records.{markAt, positionAt}
+use Rattle.dayfile.specs.declared.records.Mark.{Mark}
+use Rattle.dayfile.specs.declared.records.Position.{Position}
 use Rattle.report.specs.Lines.{space, newline, ended, positionLine, refusalLine}
 use Rattle.report.specs.Steps.{contractFields, moneyFields}
 

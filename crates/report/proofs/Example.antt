@@ -9,10 +9,11 @@ use Rattle.pricing.specs.Value.{billDividend, billDivisor, valueBy}
 use Rattle.pricing.specs.Calls.{judged, valueOf}
 use Rattle.numbers.specs.Bytes.{u32At, u32Bytes, signed, recordsOf}
 use Rattle.numbers.specs.Folds.{first, some}
-use Rattle.settlement.specs.Records.{markAt, correctionAt, positionAt}
-use Rattle.settlement.specs.Products.{listed, quoted, tickOf, currencyOf, worthOf}
-use Rattle.settlement.specs.Checks.{verdictOf}
-use Rattle.settlement.specs.Layout.{countsOf, openedOf}
+use Rattle.dayfile.specs.Records.{markAt, correctionAt, positionAt}
+use Rattle.checks.specs.Products.{listed, quoted, tickOf}
+use Rattle.settlement.specs.Products.{currencyOf, worthOf}
+use Rattle.checks.specs.Checks.{verdictOf}
+use Rattle.dayfile.specs.Layout.{countsOf, openedOf}
 use Rattle.settlement.specs.Prices.{latestOf, finalOf, changeOf}
 use Rattle.settlement.specs.Settling.{amountOf, totalOf, planOf, answerOf}
 use Rattle.settlement.proofs.Example.{marks, corrections, positions, caseFile}

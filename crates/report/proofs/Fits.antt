@@ -12,27 +12,29 @@ use Rattle.text.proofs.Writing.{texts-length}
 use Rattle.pricing.specs.declared.products.Currency.{Currency}
 use Rattle.pricing.specs.declared.products.Currency.the-variants.{Aud, Nzd}
 use Rattle.numbers.specs.Folds.{count}
-use Rattle.settlement.specs.Limits.{fileLimits}
-use Rattle.settlement.specs.Records.{Lists, positionAt, markSize, positionSize}
-use Rattle.settlement.specs.Checks.{numberPair, repeating, ruleOf, numberOf, verdictOf}
-use Rattle.settlement.specs.Layout.{openedOf, listsIn, listsOfFile, countsOf, headerSize, positionsStart, markBytes, positionBytes}
+use Rattle.dayfile.specs.Limits.{fileLimits}
+use Rattle.dayfile.specs.Records.{Lists, positionAt, markSize, positionSize}
+use Rattle.checks.specs.Checks.{numberPair, repeating, ruleOf, numberOf, verdictOf}
+use Rattle.dayfile.specs.Layout.{openedOf, listsIn, listsOfFile, countsOf, headerSize, positionsStart, markBytes, positionBytes}
 use Rattle.settlement.specs.Conditions.{Reason, Short, Counts, Layout, Record, Room, Holds, reasonNumber}
-use Rattle.settlement.specs.Settling.{refused, accept, refuse, listsPlan, planOf, answerBy, answerOf, amountOf, changeIn, totalOf, shareOf, resentOf, totals}
-use Rattle.settlement.specs.Steps.{Small, LaidOut, amountCap}
-use Rattle.settlement.specs.declared.records.Correction.{Correction}
-use Rattle.settlement.specs.declared.file.DayFile.{DayFile}
-use Rattle.settlement.specs.declared.file.Opened.{Opened}
-use Rattle.settlement.specs.declared.file.Opened.the-variants.{File, Refused}
-use Rattle.settlement.specs.declared.checks.Check.{Check}
-use Rattle.settlement.specs.declared.checks.Check.the-variants as check
-use Rattle.settlement.specs.declared.checks.Verdict.{Verdict}
-use Rattle.settlement.specs.declared.checks.Verdict.the-variants.{Passed, Failed}
-use Rattle.settlement.proofs.Accepted.{mark-in, lots-in}
-use Rattle.settlement.proofs.Parts.{small}
+use Rattle.checks.specs.Judging.{resentOf}
+use Rattle.settlement.specs.Settling.{refused, accept, refuse, listsPlan, planOf, answerBy, answerOf, amountOf, changeIn, totalOf, shareOf, totals}
+use Rattle.dayfile.specs.Steps.{Small, LaidOut}
+use Rattle.settlement.specs.Steps.{amountCap}
+use Rattle.dayfile.specs.declared.records.Correction.{Correction}
+use Rattle.dayfile.specs.declared.file.DayFile.{DayFile}
+use Rattle.dayfile.specs.declared.file.Opened.{Opened}
+use Rattle.dayfile.specs.declared.file.Opened.the-variants.{File, Refused}
+use Rattle.checks.specs.declared.order.Check.{Check}
+use Rattle.checks.specs.declared.order.Check.the-variants as check
+use Rattle.checks.specs.declared.order.Verdict.{Verdict}
+use Rattle.checks.specs.declared.order.Verdict.the-variants.{Passed, Failed}
+use Rattle.checks.proofs.Passed.{mark-in, lots-in}
+use Rattle.dayfile.proofs.Parts.{small}
 use Rattle.settlement.proofs.Changes.{change-bound}
 use Rattle.settlement.proofs.Sizes.{product-small, sum-small, keep-small}
 use Rattle.settlement.proofs.Totals.{total-is}
-use Rattle.settlement.proofs.Opening.{opens, laid-out}
+use Rattle.dayfile.proofs.Opening.{opens, laid-out}
 use Rattle.settlement.proofs.Demands.{demand-2}
 use Rattle.report.proofs.Plans.{opened-plan, refused-plan}
 use Rattle.report.specs.Lines.{lineAt}

@@ -10,9 +10,9 @@ use Rattle.text.proofs.Decimals.{decimal-length, signed-length}
 use Rattle.pricing.specs.declared.products.Currency.{Currency}
 use Rattle.pricing.specs.declared.products.Currency.the-variants.{Aud, Nzd}
 use Rattle.numbers.specs.Bytes.{Bytes, part, recordsOf}
-use Rattle.settlement.specs.Records.{markOf, positionOf, marksIn, positionsIn, markAt, positionAt, markSize, positionSize}
+use Rattle.dayfile.specs.Records.{markOf, positionOf, marksIn, positionsIn, markAt, positionAt, markSize, positionSize}
 use Rattle.settlement.specs.Products.{currencyOf}
-use Rattle.settlement.specs.declared.records.Mark.{Mark}
+use Rattle.dayfile.specs.declared.records.Mark.{Mark}
 use Rattle.numbers.proofs.Bytes.{part-bytes}
 use Rattle.numbers.proofs.Sections.{record-here, record-past}
 use Rattle.report.specs.Lines.{lettersOf, positionLine, totalLine, resentLine, refusalLine}

@@ -10,17 +10,17 @@ use lib.IntN.{ℤ, pos}
 use lib.ListN.{length, getD, drop}
 use Rattle.text.specs.Writing.{texts}
 use Rattle.text.proofs.Writing.{texts-same}
-use Rattle.settlement.specs.Limits.{fileLimits}
-use Rattle.settlement.specs.Records.{Lists, markAt, positionAt}
-use Rattle.settlement.specs.Layout.{openedOf, listsIn}
+use Rattle.dayfile.specs.Limits.{fileLimits}
+use Rattle.dayfile.specs.Records.{Lists, markAt, positionAt}
+use Rattle.dayfile.specs.Layout.{openedOf, listsIn}
 use Rattle.settlement.specs.Settling.{Plan, accept, refuse, listsPlan, planFor, planOf, said, answerOf, amountsAfter, amountOf, changeIn}
-use Rattle.settlement.specs.declared.file.DayFile.{DayFile}
-use Rattle.settlement.specs.declared.file.Opened.{Opened}
-use Rattle.settlement.specs.declared.file.Opened.the-variants.{File, Refused}
-use Rattle.settlement.specs.declared.checks.Verdict.{Verdict}
-use Rattle.settlement.specs.declared.checks.Verdict.the-variants.{Passed, Failed}
+use Rattle.dayfile.specs.declared.file.DayFile.{DayFile}
+use Rattle.dayfile.specs.declared.file.Opened.{Opened}
+use Rattle.dayfile.specs.declared.file.Opened.the-variants.{File, Refused}
+use Rattle.checks.specs.declared.order.Verdict.{Verdict}
+use Rattle.checks.specs.declared.order.Verdict.the-variants.{Passed, Failed}
 use Rattle.settlement.specs.declared.settling.Settlement.{Settlement}
-use Rattle.settlement.specs.Checks.{verdictOf}
+use Rattle.checks.specs.Checks.{verdictOf}
 use Rattle.numbers.proofs.Tables.{entry}
 use Rattle.report.specs.Lines.{positionLine}
 use Rattle.report.specs.Sheet.{positionsText}

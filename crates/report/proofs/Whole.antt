@@ -8,7 +8,7 @@ use lib.IntN.{ℤ}
 use lib.ListN.{length}
 use Rattle.text.specs.Writing.{Wrote, Writes}
 use Rattle.text.proofs.Writing.{wrote-none, writes-as}
-use Rattle.settlement.specs.Limits.{fileLimits}
+use Rattle.dayfile.specs.Limits.{fileLimits}
 use Rattle.settlement.specs.Settling.{said, planOf, answerOf, amountsAfter}
 use Rattle.settlement.specs.declared.settling.Settlement.{Settlement}
 use Rattle.numbers.specs.Bytes.{Bytes}

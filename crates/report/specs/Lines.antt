@@ -7,9 +7,9 @@ use Rattle.text.specs.Decimal.{decimal, signedDecimal}
 use Rattle.pricing.specs.declared.products.Currency.{Currency}
 use Rattle.pricing.specs.declared.products.Currency.the-variants.{Aud, Nzd}
 use Rattle.settlement.specs.Products.{currencyOf}
-use Rattle.settlement.specs.Records.{markAt, positionAt}
-use Rattle.settlement.specs.declared.records.Mark.{Mark}
-use Rattle.settlement.specs.declared.records.Position.{Position}
+use Rattle.dayfile.specs.Records.{markAt, positionAt}
+use Rattle.dayfile.specs.declared.records.Mark.{Mark}
+use Rattle.dayfile.specs.declared.records.Position.{Position}
 
 abbrev pub space : ℕ
 space = 32

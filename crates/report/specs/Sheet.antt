@@ -6,7 +6,7 @@ use lib.Dec.{leb}
 use lib.IntN.{ℤ}
 use lib.ListN.{length}
 use Rattle.text.specs.Writing.{texts}
-use Rattle.settlement.specs.Limits.{fileLimits}
+use Rattle.dayfile.specs.Limits.{fileLimits}
 use Rattle.settlement.specs.Settling.{Answer, settled, refused, Plan, accept, refuse, planOf, answerOf, amountsAfter, amountOf, changeIn}
 use Rattle.report.specs.Lines.{AUD, NZD, lineAt, totalLine, resentLine, refusalLine}
 

@@ -7,9 +7,9 @@ use lib.ListN.{getD}
 use Rattle.text.specs.Decimal.{decimal, signedDecimal}
 use Rattle.text.specs.Writing.{texts}
 use Rattle.settlement.specs.Products.{currencyOf}
-use Rattle.settlement.specs.Records.{Lists}
+use Rattle.dayfile.specs.Records.{Lists}
 use Rattle.settlement.specs.Settling.{Answer, settled, refused, Plan, paidBy, answerBy}
-use Rattle.settlement.specs.declared.records.Mark.{Mark}
+use Rattle.dayfile.specs.declared.records.Mark.{Mark}
 use Rattle.report.specs.Lines.{space, newline, ended, lettersOf, lineAt}
 
 -- code, month and year, each with a space behind it

@@ -4,16 +4,16 @@ ghost use Prim.Native.Nat.{_<_, _≤_};
 ghost use lib.ListN.{length};
 ghost use Rattle.text.specs.Decimal.{decimal};
 ghost use Rattle.text.specs.Writing.{Writes, texts};
-ghost use Rattle.settlement.specs.Records.{marksIn, positionsIn};
+ghost use Rattle.dayfile.specs.Records.{marksIn, positionsIn};
 ghost use Rattle.report.specs.Lines.{space, ended, positionLine, lineAt};
 ghost use Rattle.report.specs.Steps.{contractFields, moneyFields, placeOf};
 use crate::fields::write_cents;
 use crate::fields::write_code;
 use crate::fields::write_currency;
 use crate::fields::write_number;
-use settlement::Mark;
-use settlement::mark_at;
-use settlement::position_at;
+use dayfile::Mark;
+use dayfile::mark_at;
+use dayfile::position_at;
 
 // Writes a month and a year, each with a space behind it.
 fn write_date(month: u8, year: u8, out: &mut [u8]) -> usize

@@ -4,18 +4,18 @@ ghost use mathlib.Core.List.{_++_};
 ghost use Prim.Native.Nat.{_≤_};
 ghost use lib.ListN.{length};
 ghost use Rattle.text.specs.Writing.{Wrote, Writes};
-ghost use Rattle.settlement.specs.Limits.{fileLimits};
-ghost use Rattle.settlement.specs.Layout.{listsIn};
+ghost use Rattle.dayfile.specs.Limits.{fileLimits};
+ghost use Rattle.dayfile.specs.Layout.{listsIn};
 ghost use Rattle.settlement.specs.Settling.{said, planOf};
-ghost use Rattle.settlement.specs.Steps.{LaidOut};
+ghost use Rattle.dayfile.specs.Steps.{LaidOut};
 ghost use Rattle.report.specs.Sheet.{answerText, positionsText, sheetWithin, amountsWithin};
 ghost use Rattle.report.specs.Steps.{Paid, countOf, linesIn};
 use crate::answers::write_answer;
 use crate::positions::write_positions;
-use settlement::DayFile;
-use settlement::Opened;
+use dayfile::DayFile;
+use dayfile::Opened;
+use dayfile::open_file;
 use settlement::Settlement;
-use settlement::open_file;
 use settlement::settle;
 
 // No line of a position has more bytes.

@@ -1,89 +1,26 @@
--- What holds of three lists that passed the checks over their records.
-use mathlib.Core.Path.{_≡_, refl, sym, ap, _∙_}
-use mathlib.Core.Bool.{false, _||_}
-use mathlib.Core.List.{List, [], _∷_, foldl}
-use Prim.Native.Nat.{ℕ, _≤_, _<_}
+-- A file that is accepted, and its positions.
+use mathlib.Core.Path.{_≡_, refl}
+use mathlib.Core.Bool.{Bool, true, false, cond}
+use mathlib.Core.List.{List}
+use Prim.Native.Nat.{ℕ, _≤_}
 use native.Mathlib.Omega.{arith}
+use lib.Dec.{ltb}
+use lib.IntN.{ℤ}
 use lib.ListN.{length}
-use lib.IntN.{ℤ, pos, negsuc, negℤ, natAbs}
-use lib.Signed.{ltZ}
-use borrow.Author.Tests.{leb-false, ltb-false}
-use Rattle.settlement.specs.Records.{Lists, positionAt}
-use Rattle.numbers.specs.Integers.{isZero}
-use Rattle.settlement.specs.Checks.{ruleOf, findingOf, order, failedAt, thenCheck, verdictOf}
-use Rattle.settlement.specs.Limits.{lotsLimit}
-use Rattle.settlement.specs.Steps.{Accepted, Payable}
-use Rattle.numbers.specs.declared.Found.{Found}
-use Rattle.numbers.specs.declared.Found.the-variants.{At, Nothing}
-use Rattle.settlement.specs.declared.checks.Check.{Check}
-use Rattle.settlement.specs.declared.checks.Check.the-variants.{Code, Date, PriceLimit, Tick, MarkRepeated, CorrectionMark, CorrectionPrice, CorrectionClash, PositionMark, Lots}
-use Rattle.settlement.specs.declared.checks.Verdict.{Verdict}
-use Rattle.settlement.specs.declared.checks.Verdict.the-variants.{Passed, Failed}
-use Rattle.numbers.proofs.Truth.{or-left, or-right}
-use Rattle.numbers.proofs.Searches.{first-clear}
-
--- ---- the checks in order
-
-module _ (l : Lists) where
-  abbrev pub AllClear : List Check → Type 0
-  AllClear [] = Unit {0}
-  AllClear (c ∷ cs) = (findingOf l c ≡ Nothing) × AllClear cs
-
-  one-step : (v : Verdict) (c : Check) (o : Found) → o ≡ findingOf l c → thenCheck l v c ≡ Passed → (v ≡ Passed) × (findingOf l c ≡ Nothing)
-  one-step Passed c Nothing q p = (refl, sym q)
-  one-step Passed c (At i) q p =
-      let e : failedAt c (At i) ≡ Passed = ap (failedAt c) q ∙ p in absurd (let z : _≡_ {A = ℕ} 0 1 = cc in omega arith)
-  one-step (Failed b i) c o q p = absurd (let z : _≡_ {A = ℕ} 0 1 = cc in omega arith)
-
-  all-steps : (cs : List Check) (v : Verdict) → foldl (thenCheck l) v cs ≡ Passed → (v ≡ Passed) × AllClear cs
-  all-steps [] v p = (p, tt)
-  all-steps (c ∷ cs) v p =
-      let r = all-steps cs (thenCheck l v c) p in
-      let q = one-step v c (findingOf l c) refl (r .0) in
-      (q .0, (q .1, r .1))
-
-  steps-all : (cs : List Check) → AllClear cs → foldl (thenCheck l) Passed cs ≡ Passed
-  steps-all [] a = refl
-  steps-all (c ∷ cs) a = rw (a .0) (steps-all cs (a .1))
-
-  -- the lists pass exactly where no check finds anything
-  pub clear : verdictOf l ≡ Passed → (c : Check) → findingOf l c ≡ Nothing
-  unfolding verdictOf
-  clear p = by-check (all-steps order Passed p .1)
-    where
-      by-check : AllClear order → (c : Check) → findingOf l c ≡ Nothing
-      by-check a Code = a .0
-      by-check a Date = a .1 .0
-      by-check a PriceLimit = a .1 .1 .0
-      by-check a Tick = a .1 .1 .1 .0
-      by-check a MarkRepeated = a .1 .1 .1 .1 .0
-      by-check a CorrectionMark = a .1 .1 .1 .1 .1 .0
-      by-check a CorrectionPrice = a .1 .1 .1 .1 .1 .1 .0
-      by-check a CorrectionClash = a .1 .1 .1 .1 .1 .1 .1 .0
-      by-check a PositionMark = a .1 .1 .1 .1 .1 .1 .1 .1 .0
-      by-check a Lots = a .1 .1 .1 .1 .1 .1 .1 .1 .1 .0
-
-  pub passes : ((c : Check) → findingOf l c ≡ Nothing) → verdictOf l ≡ Passed
-  unfolding verdictOf
-  passes h = steps-all order (every order)
-    where
-      every : (cs : List Check) → AllClear cs
-      every [] = tt
-      every (c ∷ cs) = (h c, every cs)
-
--- ---- positions that passed
-
-lots-bound : (z : ℤ) → (isZero z || ltZ z (negℤ (pos lotsLimit)) || ltZ (pos lotsLimit) z) ≡ false → natAbs z ≤ lotsLimit
-lots-bound (pos n) e = ltb-false lotsLimit n (or-right (isZero (pos n) || ltZ (pos n) (negℤ (pos lotsLimit))) _ e)
-lots-bound (negsuc n) e =
-    omega (arith, ltb-false 999999 n (or-right (isZero (negsuc n)) _ (or-left (isZero (negsuc n) || ltZ (negsuc n) (negℤ (pos lotsLimit))) _ e)))
-
-module _ (l : Lists) (passed : verdictOf l ≡ Passed) (i : ℕ) (h : i < length (l .positions)) where
-  pub mark-in : positionAt (l .positions) i .mark < length (l .marks)
-  mark-in = leb-false _ _ (first-clear (ruleOf l PositionMark .test) _ i (clear l passed PositionMark) h)
-
-  pub lots-in : natAbs (positionAt (l .positions) i .lots) ≤ lotsLimit
-  lots-in = lots-bound (positionAt (l .positions) i .lots) (first-clear (ruleOf l Lots .test) _ i (clear l passed Lots) h)
+use borrow.Author.Tests.{ltb-false, le-ltb}
+use Rattle.dayfile.specs.Limits.{Limits}
+use Rattle.dayfile.specs.Records.{Lists}
+use Rattle.dayfile.specs.Layout.{listsOfFile, openedOf, listsIn}
+use Rattle.checks.specs.Checks.{verdictOf}
+use Rattle.checks.specs.Steps.{Accepted}
+use Rattle.dayfile.specs.declared.file.Opened.{Opened}
+use Rattle.dayfile.specs.declared.file.Opened.the-variants.{File, Refused}
+use Rattle.checks.specs.declared.order.Verdict.{Verdict}
+use Rattle.checks.specs.declared.order.Verdict.the-variants.{Passed, Failed}
+use Rattle.dayfile.proofs.Opening.{Laid, opens, laid-opens}
+use Rattle.checks.proofs.Passed.{mark-in, lots-in}
+use Rattle.settlement.specs.Settling.{settled, accept, refuse, listsPlan, openedPlan, planOf, answerBy, answerOf}
+use Rattle.settlement.specs.Steps.{Payable}
 
 pub payable : (l : Lists) → Accepted l → Payable (l .positions)
 payable l a =
@@ -92,3 +29,33 @@ payable l a =
       mark = λ i h. omega (arith, mark-in l (a .passed) i h, a .small .marks);
       lots = λ i h. lots-in l (a .passed) i h;
     }
+
+pub record AcceptedFile (l : Limits) (f : List ℕ) (places : ℕ) : Type 0 where
+  pub laid : Laid l f
+  pub passed : verdictOf (listsOfFile f) ≡ Passed
+  pub room : length (listsOfFile f .positions) ≤ places
+
+module _ (l : Limits) (f : List ℕ) (places : ℕ) where
+  pub accepted-plan : AcceptedFile l f places → planOf l f places ≡ accept (listsOfFile f)
+  unfolding planOf
+  accepted-plan h = rw (laid-opens l f (h .laid), h .passed, le-ltb _ _ (h .room))
+
+  room-ok : (ls : Lists) (t : Bool) → ltb places (length (ls .positions)) ≡ t → {n k : ℕ} {x y : ℤ} → answerBy (cond t (refuse 14 0) (accept ls)) ≡ settled n x y k → length (ls .positions) ≤ places
+  room-ok ls true q p = absurd (let z : _≡_ {A = ℕ} 0 1 = cc in omega arith)
+  room-ok ls false q p = ltb-false _ _ q
+
+  lists-ok : (ls : Lists) (v : Verdict) {n k : ℕ} {x y : ℤ} → answerBy (listsPlan ls v places) ≡ settled n x y k → (v ≡ Passed) × (length (ls .positions) ≤ places)
+  lists-ok ls Passed p = (refl, room-ok ls (ltb places (length (ls .positions))) refl p)
+  lists-ok ls (Failed c i) p = absurd (let z : _≡_ {A = ℕ} 0 1 = cc in omega arith)
+
+  opened-ok : (o : Opened) → openedOf l f ≡ o → {n k : ℕ} {x y : ℤ} → answerBy (openedPlan f o places) ≡ settled n x y k → AcceptedFile l f places
+  opened-ok (Refused k) q p = absurd (let z : _≡_ {A = ℕ} 0 1 = cc in omega arith)
+  opened-ok (File d) q p =
+      let (h, e) = opens l f q in
+      let r = lists-ok (listsIn f d) (verdictOf (listsIn f d)) p in
+      record { laid = h; passed = rw e (r .0); room = rw e (r .1) }
+
+  -- a file is accepted where its answer is a settlement
+  pub settled-accepted : {n k : ℕ} {x y : ℤ} → answerOf l f places ≡ settled n x y k → AcceptedFile l f places
+  unfolding answerOf planOf
+  settled-accepted p = opened-ok (openedOf l f) refl p

@@ -10,17 +10,17 @@ use lib.ListN.{length}
 use lib.Signed.{ltZ, _<ℤ_}
 use Rattle.pricing.specs.Prices.{priceLimit}
 use Rattle.pricing.specs.declared.products.Code.{Code}
-use Rattle.settlement.specs.Limits.{yearLimit, lotsLimit}
-use Rattle.settlement.specs.Records.{Lists, markAt, correctionAt, positionAt}
-use Rattle.settlement.specs.Products.{aboveLimit, quoted}
+use Rattle.dayfile.specs.Limits.{yearLimit, lotsLimit}
+use Rattle.dayfile.specs.Records.{Lists, markAt, correctionAt, positionAt}
+use Rattle.checks.specs.Products.{aboveLimit, quoted}
 use Rattle.numbers.specs.Integers.{isZero}
-use Rattle.settlement.specs.Faults.{offTick, sameContract, clashing}
-use Rattle.settlement.specs.Checks.{ruleOf, contractPair, clashPair}
+use Rattle.checks.specs.Faults.{offTick, sameContract, clashing}
+use Rattle.checks.specs.Checks.{ruleOf, contractPair, clashPair}
 use Rattle.settlement.specs.Conditions.{OffTick, SameContract, Clash, Wrong}
-use Rattle.settlement.specs.declared.records.Mark.{Mark}
-use Rattle.settlement.specs.declared.records.Correction.{Correction}
-use Rattle.settlement.specs.declared.checks.Check.{Check}
-use Rattle.settlement.specs.declared.checks.Check.the-variants as check
+use Rattle.dayfile.specs.declared.records.Mark.{Mark}
+use Rattle.dayfile.specs.declared.records.Correction.{Correction}
+use Rattle.checks.specs.declared.order.Check.{Check}
+use Rattle.checks.specs.declared.order.Check.the-variants as check
 use Rattle.numbers.proofs.Truth.{Tells, not-both, tells-as, tells-or, tells-and, tells-not, tells-lt, tells-le, tells-eq, tells-less}
 use Rattle.numbers.proofs.Truth.{tells-some}
 use Rattle.settlement.proofs.Pricing.{tells-missing, tells-quoted, tells-off-tick}

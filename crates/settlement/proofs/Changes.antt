@@ -11,11 +11,11 @@ use lib.Seq.{getD-append-add, getD-drop}
 use lib.IntN.{ℤ, pos, natAbs, _-ℤ_, +ℤ-invr}
 use Rattle.settlement.proofs.Pricing.{worth-bound}
 use Rattle.numbers.specs.Folds.{table}
-use Rattle.settlement.specs.Records.{markAt}
-use Rattle.settlement.specs.Limits.{fileLimits}
+use Rattle.dayfile.specs.Records.{markAt}
+use Rattle.dayfile.specs.Limits.{fileLimits}
 use Rattle.settlement.specs.Prices.{valueAt, changeOf}
 use Rattle.settlement.specs.Steps.{changesOf, blank, Bounded, entryOf, changeCap}
-use Rattle.settlement.specs.declared.records.Mark.{Mark}
+use Rattle.dayfile.specs.declared.records.Mark.{Mark}
 use Rattle.numbers.proofs.Signed.{size-sub}
 use Rattle.numbers.proofs.Tables.{entry, length-table}
 

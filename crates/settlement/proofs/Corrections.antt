@@ -8,19 +8,19 @@ use lib.Dec.{eqb, ltb}
 use lib.ListN.{length}
 use borrow.Author.Tests.{eqb-true, eqb-false, eq-eqb, ne-eqb, ltb-true, ltb-false}
 use Rattle.numbers.specs.Folds.{first, some}
-use Rattle.settlement.specs.Records.{Lists, correctionAt, markAt}
-use Rattle.settlement.specs.Faults.{clashing, noMark, badPrice}
-use Rattle.settlement.specs.Checks.{ruleOf, findingOf, verdictOf}
+use Rattle.dayfile.specs.Records.{Lists, correctionAt, markAt}
+use Rattle.checks.specs.Faults.{clashing, noMark, badPrice}
+use Rattle.checks.specs.Checks.{ruleOf, findingOf, verdictOf}
 use Rattle.settlement.specs.Prices.{AllIn}
-use Rattle.settlement.specs.declared.records.Mark.{Mark}
-use Rattle.settlement.specs.declared.records.Correction.{Correction}
-use Rattle.settlement.specs.declared.records.Position.{Position}
+use Rattle.dayfile.specs.declared.records.Mark.{Mark}
+use Rattle.dayfile.specs.declared.records.Correction.{Correction}
+use Rattle.dayfile.specs.declared.records.Position.{Position}
 use Rattle.numbers.specs.declared.Found.the-variants.{Nothing}
-use Rattle.settlement.specs.declared.checks.Check.{Check}
-use Rattle.settlement.specs.declared.checks.Check.the-variants.{Code, Date, PriceLimit, Tick, MarkRepeated, CorrectionMark, CorrectionPrice, CorrectionClash, PositionMark, Lots}
-use Rattle.settlement.specs.declared.checks.Verdict.the-variants.{Passed}
+use Rattle.checks.specs.declared.order.Check.{Check}
+use Rattle.checks.specs.declared.order.Check.the-variants.{Code, Date, PriceLimit, Tick, MarkRepeated, CorrectionMark, CorrectionPrice, CorrectionClash, PositionMark, Lots}
+use Rattle.checks.specs.declared.order.Verdict.the-variants.{Passed}
 use Rattle.numbers.proofs.Searches.{first-clear, clear-first, some-clear, clear-some}
-use Rattle.settlement.proofs.Accepted.{clear, passes}
+use Rattle.checks.proofs.Passed.{clear, passes}
 
 abbrev pub listsWith : List Mark → List Position → List Correction → Lists
 listsWith ms ps cs = record { marks = ms; corrections = cs; positions = ps }

@@ -16,18 +16,19 @@ use Rattle.pricing.specs.Accuracy.{accuracyOf}
 use Rattle.pricing.specs.declared.products.Currency.the-variants.{Aud, Nzd}
 use Rattle.numbers.specs.Bytes.{Bytes, u32At}
 use Rattle.numbers.specs.Folds.{sum, count, some}
-use Rattle.settlement.specs.Limits.{Limits, fileLimits}
-use Rattle.settlement.specs.Records.{Lists, correctionAt}
-use Rattle.settlement.specs.Layout.{listsOfFile}
+use Rattle.dayfile.specs.Limits.{Limits, fileLimits}
+use Rattle.dayfile.specs.Records.{Lists, correctionAt}
+use Rattle.dayfile.specs.Layout.{listsOfFile}
 use Rattle.settlement.specs.Products.{currencyOf}
-use Rattle.settlement.specs.Checks.{verdictOf}
+use Rattle.checks.specs.Checks.{verdictOf}
 use Rattle.settlement.specs.Conditions.{TurnedAway, NotTurnedAway}
 use Rattle.settlement.specs.Prices.{finalOf, FinalPrice, AllIn}
-use Rattle.settlement.specs.Settling.{keepOf, resentOf, positionIn, markIn, previousIn, finalIn, Answer, settled, refused, totals, answerOf, amountsAfter}
+use Rattle.checks.specs.Judging.{resentOf}
+use Rattle.settlement.specs.Settling.{keepOf, positionIn, markIn, previousIn, finalIn, Answer, settled, refused, totals, answerOf, amountsAfter}
 use Rattle.settlement.specs.Resend.{SentAgain, correctionRecords, Resent}
-use Rattle.settlement.specs.declared.records.Mark.{Mark}
-use Rattle.settlement.specs.declared.records.Correction.{Correction}
-use Rattle.settlement.specs.declared.checks.Verdict.the-variants.{Passed}
+use Rattle.dayfile.specs.declared.records.Mark.{Mark}
+use Rattle.dayfile.specs.declared.records.Correction.{Correction}
+use Rattle.checks.specs.declared.order.Verdict.the-variants.{Passed}
 use Rattle.settlement.proofs.Pricing as pricing
 use Rattle.settlement.proofs.Corrections as corrections
 use Rattle.numbers.proofs.Counting as counting

@@ -11,14 +11,15 @@ use Rattle.pricing.specs.Value.{billDividend, billDivisor, valueBy}
 use Rattle.pricing.specs.Calls.{judged, valueOf}
 use Rattle.numbers.specs.Bytes.{u32At, signed, recordsOf, u32Bytes}
 use Rattle.numbers.specs.Folds.{first, some}
-use Rattle.settlement.specs.Limits.{fileLimits}
-use Rattle.settlement.specs.Records.{markAt, correctionAt, positionAt}
-use Rattle.settlement.specs.Products.{listed, quoted, tickOf, currencyOf, worthOf}
-use Rattle.settlement.specs.Checks.{verdictOf}
-use Rattle.settlement.specs.Layout.{countsOf, openedOf}
+use Rattle.dayfile.specs.Limits.{fileLimits}
+use Rattle.dayfile.specs.Records.{markAt, correctionAt, positionAt}
+use Rattle.checks.specs.Products.{listed, quoted, tickOf}
+use Rattle.settlement.specs.Products.{currencyOf, worthOf}
+use Rattle.checks.specs.Checks.{verdictOf}
+use Rattle.dayfile.specs.Layout.{countsOf, openedOf}
 use Rattle.settlement.specs.Prices.{latestOf, finalOf, changeOf}
 use Rattle.settlement.specs.Settling.{amountOf, totalOf, settled, refused, planOf, answerOf, amountsAfter}
-use Rattle.settlement.specs.Making.{countsIn, entryBytes, headerOf, madeOf}
+use Rattle.dayfile.specs.Making.{countsIn, entryBytes, headerOf, madeOf}
 
 -- one mark IR, month 3, year 18, previous 950,000, today 950,200
 unfoldable pub marks : List ℕ

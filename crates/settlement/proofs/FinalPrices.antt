@@ -8,10 +8,10 @@ use native.Mathlib.Omega.{arith}
 use lib.Dec.{eqb, leb}
 use lib.ListN.{length}
 use borrow.Author.Tests.{eqb-true, eqb-false, leb-true, leb-false}
-use Rattle.settlement.specs.Records.{correctionAt, markAt}
+use Rattle.dayfile.specs.Records.{correctionAt, markAt}
 use Rattle.settlement.specs.Prices.{AllIn, newerOf, latestOf, orToday, finalOf}
-use Rattle.settlement.specs.declared.records.Mark.{Mark}
-use Rattle.settlement.specs.declared.records.Correction.{Correction}
+use Rattle.dayfile.specs.declared.records.Mark.{Mark}
+use Rattle.dayfile.specs.declared.records.Correction.{Correction}
 use Rattle.settlement.specs.declared.prices.Latest.{Latest}
 use Rattle.settlement.specs.declared.prices.Latest.the-variants.{Never, Price}
 use mathlib.Core.Logic.{_≢_}

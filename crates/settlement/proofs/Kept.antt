@@ -12,14 +12,14 @@ use mir.Syntax.{w64}
 use mir.Val.{ofZ, toZ}
 use borrow.Author.Tests.{ltb-true, ltb-false}
 use Rattle.pricing.specs.declared.products.Currency.{Currency}
-use Rattle.settlement.specs.Limits.{fileLimits}
+use Rattle.dayfile.specs.Limits.{fileLimits}
 use Rattle.settlement.specs.Products.{currencyOf}
 use Rattle.numbers.specs.Folds.{sum}
-use Rattle.settlement.specs.Records.{markAt, positionAt}
+use Rattle.dayfile.specs.Records.{markAt, positionAt}
 use Rattle.settlement.specs.Settling.{keepOf, amountOf, shareOf, sumOfAmounts}
 use Rattle.settlement.specs.Steps.{blank, entryOf, keptAt, keptOf, Payable, Bounded, totalCap, changeCap}
-use Rattle.settlement.specs.declared.records.Mark.{Mark}
-use Rattle.settlement.specs.declared.records.Position.{Position}
+use Rattle.dayfile.specs.declared.records.Mark.{Mark}
+use Rattle.dayfile.specs.declared.records.Position.{Position}
 use Rattle.numbers.proofs.Signed.{back-small}
 use Rattle.numbers.proofs.Tables.{entry, length-front}
 use Rattle.settlement.proofs.Sizes.{keep-small, amount-small, sum-small}

@@ -8,12 +8,12 @@ use lib.IntN.{ℤ}
 use lib.ListN.{length, getD, set, replicate}
 use borrow.Author.Tests.{eq-eqb, ne-eqb}
 use Rattle.numbers.specs.Folds.{Holds}
-use Rattle.settlement.specs.Limits.{fileLimits}
-use Rattle.settlement.specs.Records.{correctionAt, markAt}
+use Rattle.dayfile.specs.Limits.{fileLimits}
+use Rattle.dayfile.specs.Records.{correctionAt, markAt}
 use Rattle.settlement.specs.Prices.{newerOf, latestOf, orToday, finalOf, changeOf}
 use Rattle.settlement.specs.Steps.{EachLatest}
-use Rattle.settlement.specs.declared.records.Mark.{Mark}
-use Rattle.settlement.specs.declared.records.Correction.{Correction}
+use Rattle.dayfile.specs.declared.records.Mark.{Mark}
+use Rattle.dayfile.specs.declared.records.Correction.{Correction}
 use Rattle.settlement.specs.declared.prices.Latest.{Latest}
 use Rattle.settlement.specs.declared.prices.Latest.the-variants.{Never}
 use Rattle.numbers.proofs.Held.{holds-all, holds-set}

@@ -7,12 +7,8 @@ pub mod Values
 pub mod FinalPrices
 pub mod Resending
 pub mod ResentMade
-pub mod Made
 pub mod Corrections
 pub mod ResentCount
-pub mod Opening
-pub mod Header
-pub mod Parts
 pub mod Accepted
 pub mod Plans
 pub mod Totals
@@ -20,8 +16,4 @@ pub mod Changes
 pub mod Sizes
 pub mod Kept
 pub mod Latests
-pub mod Pairs
-pub mod Clashes
-pub mod Told
-pub mod Fields
 pub mod Pricing

@@ -21,7 +21,8 @@ use Rattle.pricing.specs.Prices.{priceLimit}
 use Rattle.pricing.specs.Value.{exactOf}
 use Rattle.pricing.specs.Accuracy.{accuracyOf}
 use Rattle.pricing.specs.Value.{valueCap}
-use Rattle.settlement.specs.Products.{orZero, worthOf, listed, listedIn, quoted, quotedIn, tickOf, tickIn}
+use Rattle.checks.specs.Products.{listed, listedIn, quoted, quotedIn, tickOf, tickIn}
+use Rattle.settlement.specs.Products.{orZero, worthOf}
 use Rattle.settlement.specs.Conditions.{Quoted}
 use Rattle.numbers.proofs.Truth.{Tells, not-both, tells-as, tells-not, tells-divides}
 
@@ -33,14 +34,7 @@ pub worth-bound : (a : Code) (p : ℕ) → worthOf a p ≤ valueCap
 unfolding worthOf
 worth-bound a p = by-answer a p (valueOf a p) refl
 
--- a definition that goes by what the table has, from what a lookup found
-pub by-lookup : {R : Type 0} (f : Found → R) (a : Code) {o q : Found} {r : R} → o ≡ find a → o ≡ q → r ≡ f q → r ≡ f (find a)
-by-lookup f a e g h = rw (← e, g) h
-
-pub tick-positive : (a : Code) {o : Found} {q : Product} → o ≡ find a → o ≡ At q → 0 < q .tick
-tick-positive a e g = pricing.tick-positive a (sym e ∙ g)
-
--- the same for the value of one contract
+-- from what a call of pricing answered
 pub by-value : (a : Code) (p : ℕ) (x : Priced) {n : ℕ} → said x ≡ valueOf a p → n ≡ orZero (said x) → (n ≡ worthOf a p) × (n ≤ valueCap)
 unfolding worthOf
 by-value a p x {n} e h =

@@ -9,16 +9,16 @@ use lib.Dec.{leb, ltb, eqb}
 use lib.IntN.{ℤ}
 use lib.ListN.{length}
 use Rattle.numbers.specs.Bytes.{u32At}
-use Rattle.settlement.specs.Limits.{Limits}
-use Rattle.settlement.specs.Layout.{headerSize, countsOf, correctionsStart, positionsStart, lengthOf, withinLimits, asLaidOut, openedOf, listsOfFile}
-use Rattle.settlement.specs.Checks.{ruleOf, findingOf, numberOf, order, failedAt, thenCheck, verdictOf}
+use Rattle.dayfile.specs.Limits.{Limits}
+use Rattle.dayfile.specs.Layout.{headerSize, countsOf, correctionsStart, positionsStart, lengthOf, withinLimits, asLaidOut, openedOf, listsOfFile}
+use Rattle.checks.specs.Checks.{ruleOf, findingOf, numberOf, order, failedAt, thenCheck, verdictOf}
 use Rattle.settlement.specs.Conditions.{Reason, Short, Counts, Layout, Record, Room, Holds, reasonNumber, reasons, TurnedAway, NotTurnedAway}
 use Rattle.settlement.specs.Settling.{settled, refused, totals, Plan, accept, refuse, listsPlan, planFor, openedPlan, planOf, answerBy, answerOf}
-use Rattle.settlement.specs.declared.file.Opened.the-variants.{File, Refused}
+use Rattle.dayfile.specs.declared.file.Opened.the-variants.{File, Refused}
 use Rattle.numbers.specs.declared.Found.{Found}
 use Rattle.numbers.specs.declared.Found.the-variants.{At, Nothing}
-use Rattle.settlement.specs.declared.checks.Check.{Check}
-use Rattle.settlement.specs.declared.checks.Verdict.the-variants.{Passed, Failed}
+use Rattle.checks.specs.declared.order.Check.{Check}
+use Rattle.checks.specs.declared.order.Verdict.the-variants.{Passed, Failed}
 use Rattle.numbers.proofs.Order.{Finds, finds-whole, finds-unless, first-finds, Decision, met, clear, pick, decision, met-exactly, clear-exactly}
 use Rattle.numbers.proofs.Truth.{Tells, tells-as, tells-not, tells-either, tells-lt, tells-above, tells-eq}
 use Rattle.settlement.proofs.Agreement.{agrees}

@@ -7,19 +7,21 @@ use native.Mathlib.Omega.{arith}
 use lib.IntN.{ℤ}
 use lib.ListN.{length, getD, take, length-map, List·getD-map}
 use Rattle.numbers.specs.Bytes.{u32At}
-use Rattle.settlement.specs.Records.{Lists, correctionAt, correctionOf, marksIn, positionsIn}
-use Rattle.settlement.specs.Checks.{verdictOf}
-use Rattle.settlement.specs.Limits.{Limits}
-use Rattle.settlement.specs.Layout.{listsOfFile, countsOf}
+use Rattle.dayfile.specs.Records.{Lists, correctionAt, correctionOf, marksIn, positionsIn}
+use Rattle.checks.specs.Checks.{verdictOf}
+use Rattle.dayfile.specs.Limits.{Limits}
+use Rattle.dayfile.specs.Layout.{listsOfFile, countsOf}
 use Rattle.settlement.specs.Prices.{AllIn, changeOf}
-use Rattle.settlement.specs.Settling.{amountOf, changeIn, resentOf, Answer, settled, refused, accept, answerOf, amountsAfter, totals}
+use Rattle.checks.specs.Judging.{resentOf}
+use Rattle.settlement.specs.Settling.{amountOf, changeIn, Answer, settled, refused, accept, answerOf, amountsAfter, totals}
 use Rattle.settlement.specs.Resend.{SentAgain, end, kept, copy, correctionRecords, Resent}
-use Rattle.settlement.specs.declared.checks.Verdict.the-variants.{Passed}
+use Rattle.checks.specs.declared.order.Verdict.the-variants.{Passed}
 use Rattle.numbers.proofs.Tables.{take-front}
 use Rattle.settlement.proofs.Corrections.{listsWith, apart, still-passes}
 use Rattle.settlement.proofs.FinalPrices.{same-finals}
 use Rattle.settlement.proofs.ResentCount.{same-numbers}
-use Rattle.settlement.proofs.Opening.{Laid, AcceptedFile, accepted-plan, settled-accepted}
+use Rattle.dayfile.proofs.Opening.{Laid}
+use Rattle.settlement.proofs.Accepted.{AcceptedFile, accepted-plan, settled-accepted}
 
 -- ---- "sent again": the same records, and so the same corrections
 

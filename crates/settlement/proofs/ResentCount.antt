@@ -7,10 +7,10 @@ use native.Mathlib.Omega.{arith}
 use lib.Dec.{eqb}
 use lib.ListN.{length}
 use Rattle.numbers.specs.Folds.{some, count}
-use Rattle.settlement.specs.Records.{correctionAt}
+use Rattle.dayfile.specs.Records.{correctionAt}
 use Rattle.settlement.specs.Prices.{AllIn}
-use Rattle.settlement.specs.Settling.{resentOf}
-use Rattle.settlement.specs.declared.records.Correction.{Correction}
+use Rattle.checks.specs.Judging.{resentOf}
+use Rattle.dayfile.specs.declared.records.Correction.{Correction}
 use Rattle.numbers.proofs.Searches.{some-clear, clear-some}
 use Rattle.numbers.proofs.Counting.{bears, different-and-repeated, ceiling, below-ceiling}
 

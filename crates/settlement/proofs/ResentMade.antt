@@ -8,19 +8,20 @@ use lib.ListN.{length, drop, length-append, length-drop, length-map}
 use lib.Seq.{take-at, drop-at, length-take-le}
 use Rattle.numbers.specs.Bytes.{Bytes, u32At, records, recordsOf, bytesOf}
 use Rattle.numbers.proofs.Bytes.{part-bytes, record-bytes, all-bytes}
-use Rattle.settlement.specs.Records.{correctionSize, correctionOf, markSize, positionSize}
-use Rattle.settlement.specs.Limits.{fileLimits}
-use Rattle.settlement.specs.Layout.{countsOf, openedOf, markBytes, correctionBytes, positionBytes, headerSize, correctionsStart, positionsStart}
+use Rattle.dayfile.specs.Records.{correctionSize, correctionOf, markSize, positionSize}
+use Rattle.dayfile.specs.Limits.{fileLimits}
+use Rattle.dayfile.specs.Layout.{countsOf, openedOf, markBytes, correctionBytes, positionBytes, headerSize, correctionsStart, positionsStart}
 use Rattle.settlement.specs.Settling.{settled, answerOf}
 use Rattle.settlement.specs.Resend.{SentAgain, correctionRecords, Resent}
-use Rattle.settlement.specs.Making.{countsIn, madeOf}
-use Rattle.settlement.specs.declared.file.DayFile.{DayFile}
-use Rattle.settlement.specs.declared.file.Opened.the-variants.{File}
+use Rattle.dayfile.specs.Making.{countsIn, madeOf}
+use Rattle.dayfile.specs.declared.file.DayFile.{DayFile}
+use Rattle.dayfile.specs.declared.file.Opened.the-variants.{File}
 use Rattle.numbers.proofs.Sections.{size-is}
-use Rattle.settlement.proofs.Parts.{corrections-sized}
+use Rattle.dayfile.proofs.Parts.{corrections-sized}
 use Rattle.settlement.proofs.Resending.{sent-within, sent-length}
-use Rattle.settlement.proofs.Opening.{opens, laid-out, laid-opens, settled-accepted}
-use Rattle.settlement.proofs.Made.{Whole, counts-by, sections-whole, made-counts, made-length, made-marks-at, made-corrections-at, made-positions-at, made-marks, made-corrections, made-positions, made-is-bytes}
+use Rattle.dayfile.proofs.Opening.{opens, laid-out, laid-opens}
+use Rattle.settlement.proofs.Accepted.{settled-accepted}
+use Rattle.dayfile.proofs.Made.{Whole, counts-by, sections-whole, made-counts, made-length, made-marks-at, made-corrections-at, made-positions-at, made-marks, made-corrections, made-positions, made-is-bytes}
 
 -- ---- records of one size and their bytes
 

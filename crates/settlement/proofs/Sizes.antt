@@ -10,12 +10,12 @@ use mir.Val.{toZ, ofZ}
 use lib.IntN.{ℤ, natAbs, _*ℤ_}
 use Rattle.pricing.specs.declared.products.Currency.{Currency}
 use Rattle.pricing.specs.declared.products.Currency.the-variants.{Aud, Nzd}
-use Rattle.settlement.specs.Limits.{lotsLimit, fileLimits}
+use Rattle.dayfile.specs.Limits.{lotsLimit, fileLimits}
 use Rattle.numbers.specs.Folds.{sum}
-use Rattle.settlement.specs.Records.{positionAt}
+use Rattle.dayfile.specs.Records.{positionAt}
 use Rattle.settlement.specs.Settling.{amountOf, keepOf}
 use Rattle.settlement.specs.Steps.{Payable, Bounded, entryOf, amountCap, changeCap}
-use Rattle.settlement.specs.declared.records.Position.{Position}
+use Rattle.dayfile.specs.declared.records.Position.{Position}
 use Rattle.numbers.proofs.Signed.{size-sum, size-mul, back-small}
 
 -- a product of bounded numbers

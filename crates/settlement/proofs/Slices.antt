@@ -8,15 +8,15 @@ use lib.ListN.{length, getD, drop}
 use Rattle.pricing.specs.declared.products.Currency.{Currency}
 use Rattle.pricing.specs.declared.products.Currency.the-variants.{Aud, Nzd}
 use Rattle.numbers.specs.Folds.{sum}
-use Rattle.settlement.specs.Limits.{Limits}
-use Rattle.settlement.specs.Layout.{listsOfFile}
+use Rattle.dayfile.specs.Limits.{Limits}
+use Rattle.dayfile.specs.Layout.{listsOfFile}
 use Rattle.settlement.specs.Products.{currencyOf}
 use Rattle.settlement.specs.Settling.{keepOf, amountOf, shareOf, totalOf, changeIn, markIn, settled, refused, totals, Plan, accept, refuse, answerBy, paidBy, planOf, answerOf, amountsAfter}
 use Rattle.numbers.proofs.Tables.{entry, length-front, drop-front}
-use Rattle.settlement.proofs.Accepted.{mark-in}
+use Rattle.checks.proofs.Passed.{mark-in}
 use Rattle.settlement.proofs.Totals.{total-is}
 use Rattle.numbers.proofs.SignedSums.{sum-below}
-use Rattle.settlement.proofs.Opening.{AcceptedFile, accepted-plan, settled-accepted}
+use Rattle.settlement.proofs.Accepted.{AcceptedFile, accepted-plan, settled-accepted}
 
 -- the one of two totals that a currency has
 abbrev pub ofTwo : Currency → ℤ → ℤ → ℤ

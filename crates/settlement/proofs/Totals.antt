@@ -8,15 +8,16 @@ use Rattle.pricing.specs.declared.products.Currency.{Currency}
 use Rattle.pricing.specs.declared.products.Currency.the-variants.{Aud, Nzd}
 use Rattle.settlement.specs.Products.{currencyOf}
 use Rattle.numbers.specs.Folds.{front}
-use Rattle.settlement.specs.Records.{Lists, markAt, positionAt}
+use Rattle.dayfile.specs.Records.{Lists, markAt, positionAt}
 use Rattle.settlement.specs.Prices.{finalOf}
 use Rattle.settlement.specs.Settling.{keepOf, amountOf, netOf, shareOf, sumOfAmounts, totalOf, changeIn, paid}
-use Rattle.settlement.specs.Steps.{changesOf, Accepted, entryOf}
-use Rattle.settlement.specs.declared.records.Mark.{Mark}
-use Rattle.settlement.specs.declared.records.Position.{Position}
+use Rattle.checks.specs.Steps.{Accepted}
+use Rattle.settlement.specs.Steps.{changesOf, entryOf}
+use Rattle.dayfile.specs.declared.records.Mark.{Mark}
+use Rattle.dayfile.specs.declared.records.Position.{Position}
 use Rattle.numbers.proofs.Tables.{table-same}
 use Rattle.numbers.proofs.SignedSums.{sum-same, sum-below, exchange}
-use Rattle.settlement.proofs.Accepted.{mark-in}
+use Rattle.checks.proofs.Passed.{mark-in}
 use Rattle.settlement.proofs.Changes.{change-at}
 
 pub keep-mul : (w z : Currency) (x y : ℤ) → keepOf w z (x *ℤ y) ≡ x *ℤ keepOf w z y

@@ -7,18 +7,18 @@ use lib.ListN.{length}
 use borrow.Author.Tests.{ltb-false, eqb-true, not-false}
 use Rattle.pricing.specs.Prices.{priceLimit}
 use Rattle.pricing.specs.Calls.{given, valueOf}
-use Rattle.settlement.specs.Records.{Lists, markAt, correctionAt, positionAt}
-use Rattle.settlement.specs.Products.{aboveLimit, listed, tickOf}
-use Rattle.settlement.specs.Faults.{offTick}
-use Rattle.settlement.specs.Checks.{ruleOf, verdictOf}
+use Rattle.dayfile.specs.Records.{Lists, markAt, correctionAt, positionAt}
+use Rattle.checks.specs.Products.{aboveLimit, listed, tickOf}
+use Rattle.checks.specs.Faults.{offTick}
+use Rattle.checks.specs.Checks.{ruleOf, verdictOf}
 use Rattle.settlement.specs.Prices.{finalOf, changeOf, FinalPrice, corrected, uncorrected}
 use Rattle.settlement.specs.Settling.{amountOf, changeIn}
-use Rattle.settlement.specs.declared.records.Mark.{Mark}
-use Rattle.settlement.specs.declared.checks.Check.{Check}
-use Rattle.settlement.specs.declared.checks.Check.the-variants.{Code, PriceLimit, Tick, CorrectionPrice}
-use Rattle.settlement.specs.declared.checks.Verdict.the-variants.{Passed}
+use Rattle.dayfile.specs.declared.records.Mark.{Mark}
+use Rattle.checks.specs.declared.order.Check.{Check}
+use Rattle.checks.specs.declared.order.Check.the-variants.{Code, PriceLimit, Tick, CorrectionPrice}
+use Rattle.checks.specs.declared.order.Verdict.the-variants.{Passed}
 use Rattle.numbers.proofs.Searches.{first-clear, or-none}
-use Rattle.settlement.proofs.Accepted.{clear, mark-in}
+use Rattle.checks.proofs.Passed.{clear, mark-in}
 use Rattle.settlement.proofs.FinalPrices.{final-price-is}
 use Rattle.settlement.proofs.Pricing.{valued, worth-is}
 

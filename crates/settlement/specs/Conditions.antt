@@ -14,14 +14,14 @@ use Rattle.pricing.specs.declared.products.Code.{Code}
 use Rattle.pricing.specs.declared.products.Product.{Product}
 use Rattle.pricing.specs.declared.products.Found.the-variants.{At}
 use Rattle.numbers.specs.Bytes.{u32At}
-use Rattle.settlement.specs.Limits.{Limits, yearLimit, lotsLimit}
-use Rattle.settlement.specs.Records.{Lists, markAt, correctionAt, positionAt}
-use Rattle.settlement.specs.Layout.{headerSize, countsOf, correctionsStart, positionsStart, lengthOf, listsOfFile}
-use Rattle.settlement.specs.Checks.{ruleOf, numberOf, order}
-use Rattle.settlement.specs.declared.records.Mark.{Mark}
-use Rattle.settlement.specs.declared.records.Correction.{Correction}
-use Rattle.settlement.specs.declared.checks.Check.{Check}
-use Rattle.settlement.specs.declared.checks.Check.the-variants as check
+use Rattle.dayfile.specs.Limits.{Limits, yearLimit, lotsLimit}
+use Rattle.dayfile.specs.Records.{Lists, markAt, correctionAt, positionAt}
+use Rattle.dayfile.specs.Layout.{headerSize, countsOf, correctionsStart, positionsStart, lengthOf, listsOfFile}
+use Rattle.checks.specs.Checks.{ruleOf, numberOf, order}
+use Rattle.dayfile.specs.declared.records.Mark.{Mark}
+use Rattle.dayfile.specs.declared.records.Correction.{Correction}
+use Rattle.checks.specs.declared.order.Check.{Check}
+use Rattle.checks.specs.declared.order.Check.the-variants as check
 
 -- ---- the words
 

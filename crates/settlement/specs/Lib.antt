@@ -1,13 +1,6 @@
-pub mod Limits
-pub mod Records
-pub mod Layout
 pub mod Products
-pub mod Faults
-pub mod Checks
 pub mod Conditions
 pub mod Prices
 pub mod Settling
 pub mod Steps
-pub mod Earlier
 pub mod Resend
-pub mod Making

@@ -8,9 +8,9 @@ use lib.Dec.{leb, eqb}
 use lib.IntN.{ℤ, pos, _-ℤ_}
 use lib.ListN.{length}
 use Rattle.settlement.specs.Products.{worthOf}
-use Rattle.settlement.specs.Records.{markAt, correctionAt}
-use Rattle.settlement.specs.declared.records.Mark.{Mark}
-use Rattle.settlement.specs.declared.records.Correction.{Correction}
+use Rattle.dayfile.specs.Records.{markAt, correctionAt}
+use Rattle.dayfile.specs.declared.records.Mark.{Mark}
+use Rattle.dayfile.specs.declared.records.Correction.{Correction}
 use Rattle.settlement.specs.declared.prices.Latest.{Latest}
 use Rattle.settlement.specs.declared.prices.Latest.the-variants.{Never, Price}
 

@@ -4,8 +4,8 @@ use mathlib.Core.List.{List, [], _∷_, List·Memᴰ}
 use Prim.Native.Nat.{ℕ, suc, _+_, _*_}
 use lib.ListN.{length}
 use Rattle.numbers.specs.Bytes.{u32At, recordsOf}
-use Rattle.settlement.specs.Records.{correctionSize}
-use Rattle.settlement.specs.Layout.{countsOf, markBytes, correctionBytes, positionBytes}
+use Rattle.dayfile.specs.Records.{correctionSize}
+use Rattle.dayfile.specs.Layout.{countsOf, markBytes, correctionBytes, positionBytes}
 
 -- copies of records of `base` are put anywhere into a list, whose records keep their order; the number is how many copies
 pub data SentAgain (base : List (List ℕ)) : List (List ℕ) → List (List ℕ) → ℕ → Type 0 where

@@ -8,19 +8,20 @@ use lib.ListN.{length}
 use Rattle.pricing.specs.declared.products.Currency.{Currency}
 use Rattle.pricing.specs.declared.products.Currency.the-variants.{Aud, Nzd}
 use Rattle.settlement.specs.Products.{currencyOf}
-use Rattle.numbers.specs.Folds.{front, count, sum}
-use Rattle.settlement.specs.Limits.{Limits}
-use Rattle.settlement.specs.Records.{Lists, markAt, positionAt}
-use Rattle.settlement.specs.Checks.{numberPair, repeating, verdictOf, numberOf}
-use Rattle.settlement.specs.Layout.{openedOf, listsIn, listsOfFile}
+use Rattle.numbers.specs.Folds.{front, sum}
+use Rattle.dayfile.specs.Limits.{Limits}
+use Rattle.dayfile.specs.Records.{Lists, markAt, positionAt}
+use Rattle.checks.specs.Checks.{verdictOf, numberOf}
+use Rattle.checks.specs.Judging.{resentOf}
+use Rattle.dayfile.specs.Layout.{openedOf, listsIn, listsOfFile}
 use Rattle.settlement.specs.Prices.{finalOf, changeOf}
-use Rattle.settlement.specs.declared.records.Mark.{Mark}
-use Rattle.settlement.specs.declared.records.Correction.{Correction}
-use Rattle.settlement.specs.declared.records.Position.{Position}
-use Rattle.settlement.specs.declared.file.Opened.{Opened}
-use Rattle.settlement.specs.declared.file.Opened.the-variants as opened
-use Rattle.settlement.specs.declared.checks.Verdict.{Verdict}
-use Rattle.settlement.specs.declared.checks.Verdict.the-variants.{Passed, Failed}
+use Rattle.dayfile.specs.declared.records.Mark.{Mark}
+use Rattle.dayfile.specs.declared.records.Correction.{Correction}
+use Rattle.dayfile.specs.declared.records.Position.{Position}
+use Rattle.dayfile.specs.declared.file.Opened.{Opened}
+use Rattle.dayfile.specs.declared.file.Opened.the-variants as opened
+use Rattle.checks.specs.declared.order.Verdict.{Verdict}
+use Rattle.checks.specs.declared.order.Verdict.the-variants.{Passed, Failed}
 use Rattle.settlement.specs.declared.settling.Settlement.{Settlement}
 use Rattle.settlement.specs.declared.settling.Settlement.the-variants.{Settled, Refused}
 
@@ -68,10 +69,6 @@ previousIn f i = markIn f i .previous
 
 abbrev pub finalIn : List ℕ → ℕ → ℕ
 finalIn f i = finalOf (listsOfFile f .marks) (listsOfFile f .corrections) (positionIn f i .mark)
-
--- how many corrections bear a number that an earlier one bears
-abbrev pub resentOf : List Correction → ℕ
-resentOf cs = count (repeating (numberPair cs)) (length cs)
 
 -- the answer of a settlement: the count, the totals in Australian and New Zealand cents, the resent count; or a check's number and a record's index
 pub data Answer : Type 0 where

@@ -1,26 +1,28 @@
 -- What the steps of the settlement ask of each other and give: arrays, sizes, and what was checked before.
 use mathlib.Core.Path.{_≡_}
 use Prim.Native.Nat.{ℕ, _≤_, _<_}
-use mathlib.Core.Bool.{Bool, cond}
 use mathlib.Core.List.{List}
 use lib.IntN.{ℤ, pos, natAbs}
 use lib.ListN.{length, getD, replicate}
 use Rattle.pricing.specs.declared.products.Currency.{Currency}
 use Rattle.numbers.specs.Folds.{front}
-use Rattle.settlement.specs.Limits.{fileLimits, lotsLimit}
-use Rattle.settlement.specs.Records.{Lists, markAt, positionAt}
-use Rattle.settlement.specs.Layout.{lengthOf}
+use Rattle.dayfile.specs.Limits.{fileLimits, lotsLimit}
+use Rattle.dayfile.specs.Records.{Lists, markAt, positionAt}
+use Rattle.dayfile.specs.Layout.{listsIn}
 use Rattle.settlement.specs.Products.{currencyOf}
-use Rattle.settlement.specs.Checks.{verdictOf}
+use Rattle.checks.specs.Checks.{verdictOf}
+use Rattle.checks.specs.Judging.{resentOf}
+use Rattle.dayfile.specs.Steps.{LaidOut}
+use Rattle.checks.specs.Steps.{Accepted}
 use Rattle.settlement.specs.Prices.{latestOf, changeOf}
 use Rattle.settlement.specs.Settling.{keepOf, said, Plan, answerBy, paidBy}
-use Rattle.settlement.specs.declared.records.Mark.{Mark}
-use Rattle.settlement.specs.declared.records.Correction.{Correction}
-use Rattle.settlement.specs.declared.records.Position.{Position}
-use Rattle.settlement.specs.declared.file.DayFile.{DayFile}
+use Rattle.dayfile.specs.declared.records.Mark.{Mark}
+use Rattle.dayfile.specs.declared.records.Correction.{Correction}
+use Rattle.dayfile.specs.declared.records.Position.{Position}
+use Rattle.dayfile.specs.declared.file.DayFile.{DayFile}
 use Rattle.settlement.specs.declared.prices.Latest.{Latest}
 use Rattle.settlement.specs.declared.prices.Latest.the-variants.{Never}
-use Rattle.settlement.specs.declared.checks.Verdict.the-variants.{Passed}
+use Rattle.checks.specs.declared.order.Verdict.the-variants.{Passed}
 use Rattle.settlement.specs.declared.settling.Settlement.{Settlement}
 
 -- no change in value is larger
@@ -34,17 +36,6 @@ amountCap = 1_000_000_000_000_000
 abbrev pub totalCap : ℕ
 totalCap = 5_000_000_000_000_000_000
 
--- the counts are within the file's limits
-pub record Limited (d : DayFile) : Type 0 where
-  pub marks : d .marks ≤ fileLimits .marks
-  pub corrections : d .corrections ≤ fileLimits .corrections
-  pub positions : d .positions ≤ fileLimits .positions
-
--- and the file has the length that they give
-pub record LaidOut (s : List ℕ) (d : DayFile) : Type 0 where
-  pub limited : Limited d
-  pub whole : length s ≡ lengthOf d
-
 -- a list has the highest-numbered one for each mark of a file, among the first n corrections
 pub record EachLatest (cs : List Correction) (n : ℕ) (r : List Latest) : Type 0 where
   pub entry : (m : ℕ) → m < fileLimits .marks → getD r m Never ≡ latestOf cs m n
@@ -57,16 +48,16 @@ blank = replicate (fileLimits .marks) (pos 0)
 abbrev pub changesOf : List Mark → (ℕ → ℕ) → List ℤ
 changesOf ms final = front (changeOf ms final) blank (length ms)
 
--- three lists within the file's limits
-pub record Small (l : Lists) : Type 0 where
-  pub marks : length (l .marks) ≤ fileLimits .marks
-  pub corrections : length (l .corrections) ≤ fileLimits .corrections
-  pub positions : length (l .positions) ≤ fileLimits .positions
+-- three lists whose records passed, and how many of the corrections were resent
+pub record Passing (l : Lists) (resent : ℕ) : Type 0 where
+  pub accepted : Accepted l
+  pub counted : resent ≡ resentOf (l .corrections)
 
--- whose records passed
-pub record Accepted (l : Lists) : Type 0 where
-  pub small : Small l
-  pub passed : verdictOf l ≡ Passed
+-- a file that passed checks 1 to 13
+pub record Sound (s : List ℕ) (d : DayFile) (resent : ℕ) : Type 0 where
+  pub laid : LaidOut s d
+  pub passed : verdictOf (listsIn s d) ≡ Passed
+  pub counted : resent ≡ resentOf (listsIn s d .corrections)
 
 -- positions whose lots and marks are in range
 pub record Payable (ps : List Position) : Type 0 where
@@ -87,10 +78,6 @@ keptAt ms wanted a m = keepOf wanted (currencyOf (markAt ms m .code)) (entryOf a
 
 abbrev pub keptOf : List Mark → Currency → List ℤ → List ℤ
 keptOf ms wanted a = front (keptAt ms wanted a) blank (fileLimits .marks)
-
--- 1 where a test is passed
-abbrev pub bit : Bool → ℕ
-bit b = cond b 1 0
 
 -- an answer and a slice that are what a plan says, of the slice before
 pub record Settles (plan : Plan) (r : Settlement) (before after : List ℤ) : Type 0 where

@@ -1,17 +1,17 @@
 // The amounts of the positions and the totals of the currencies, from the marks' changes in value.
-use crate::file::DayFile;
 use crate::products;
-use crate::records::mark_at;
-use crate::records::position_at;
-use crate::records::position_count;
+use dayfile::DayFile;
+use dayfile::mark_at;
+use dayfile::position_at;
+use dayfile::position_count;
 use pricing::Currency;
 ghost use mathlib.Core.Path.{_≡_};
 ghost use Prim.Native.Nat.{_<_, _≤_};
 ghost use lib.IntN.{natAbs, _+ℤ_, _*ℤ_};
 ghost use lib.ListN.{length};
 ghost use Rattle.numbers.specs.Folds.{front, sum};
-ghost use Rattle.settlement.specs.Limits.{lotsLimit};
-ghost use Rattle.settlement.specs.Records.{marksIn, positionsIn};
+ghost use Rattle.dayfile.specs.Limits.{lotsLimit};
+ghost use Rattle.dayfile.specs.Records.{marksIn, positionsIn};
 ghost use Rattle.settlement.specs.Settling.{keepOf, amountOf, sumOfAmounts};
 ghost use Rattle.settlement.specs.Steps.{changeCap, amountCap, totalCap, Payable, Bounded, entryOf, keptOf};
 

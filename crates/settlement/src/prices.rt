@@ -1,19 +1,19 @@
 // The final price of a mark, and its change in value.
-use crate::file::DayFile;
 use crate::products;
-use crate::records::Correction;
-use crate::records::Mark;
-use crate::records::correction_at;
-use crate::records::correction_count;
-use crate::records::mark_at;
-use crate::records::mark_count;
+use dayfile::Correction;
+use dayfile::DayFile;
+use dayfile::Mark;
+use dayfile::correction_at;
+use dayfile::correction_count;
+use dayfile::mark_at;
+use dayfile::mark_count;
 ghost use mathlib.Core.Path.{_≡_};
 ghost use Prim.Native.Nat.{_≤_};
 ghost use lib.Dec.{leb};
 ghost use lib.IntN.{pos, _-ℤ_};
 ghost use lib.ListN.{length};
-ghost use Rattle.settlement.specs.Limits.{fileLimits};
-ghost use Rattle.settlement.specs.Records.{marksIn, correctionsIn, markAt};
+ghost use Rattle.dayfile.specs.Limits.{fileLimits};
+ghost use Rattle.dayfile.specs.Records.{marksIn, correctionsIn, markAt};
 ghost use Rattle.pricing.specs.Value.{valueCap};
 ghost use Rattle.settlement.specs.Prices.{newerOf, orToday, finalOf, changeOf};
 ghost use Rattle.settlement.specs.Steps.{changesOf, EachLatest};

@@ -1,12 +1,12 @@
 // Reads a day file from standard input and prints its settlement sheet, once the whole file is judged.
 mod input;
 
+use dayfile::DayFile;
 use input::Input;
 use input::read_file;
 use libc::STDERR_FILENO;
 use libc::STDOUT_FILENO;
 use report::SHEET_SIZE;
-use settlement::DayFile;
 
 fn print_sheet(file: &[u8]) {
     let mut amounts = [0i64; DayFile::MAX_POSITIONS];

@@ -1,6 +1,6 @@
 use Rattle.report.specs.Lines.{lineAt}
 use Rattle.report.specs.Steps.{placeOf}
-use Rattle.settlement.specs.Records.{marksIn, positionsIn}
+use Rattle.dayfile.specs.Records.{marksIn, positionsIn}
 use Prim.Native.Nat.{_≤_, _-_}
 use native.Mathlib.Omega.{arith}
 use mathlib.Core.Path.{_≡_}

@@ -1,6 +1,6 @@
 use mathlib.Core.Path.{ap}
 use Rattle.text.proofs.Writing.{writes-as}
-use Rattle.settlement.proofs.Parts.{parts-are}
+use Rattle.dayfile.proofs.Parts.{parts-are}
 use borrow.Author.Needs.{needs}
 use Rattle.report.proofs.sheets.write_laid_out.Statement.{statement}
 use Rattle.report.proofs.sheets.write_laid_out.Tie as tie

@@ -1,5 +1,5 @@
 use Rattle.report.proofs.Plans.{refused-lines, settled-lines}
-use Rattle.settlement.proofs.Opening.{laid-out}
+use Rattle.dayfile.proofs.Opening.{laid-out}
 use mathlib.Core.Path.{sym, _∙_}
 use Rattle.text.proofs.Writing.{writes-as, writes-none}
 use borrow.Author.Needs.{needs}

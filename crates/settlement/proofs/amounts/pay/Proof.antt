@@ -3,7 +3,7 @@ use mathlib.Core.Path.{_≡_, refl, ap, _∙_}
 use native.Mathlib.Omega.{arith}
 use lib.ListN.{length}
 use Rattle.numbers.specs.Folds.{front}
-use Rattle.settlement.specs.Records.{positionsIn}
+use Rattle.dayfile.specs.Records.{positionsIn}
 use Rattle.settlement.specs.Settling.{amountOf}
 use Rattle.settlement.specs.Steps.{entryOf}
 use Rattle.numbers.proofs.Chain.{at-end}

@@ -6,7 +6,7 @@ use lib.IntN.{_+ℤ_}
 use mir.Syntax.{w64}
 use mir.Val.{ofZ}
 use Rattle.numbers.specs.Folds.{sum}
-use Rattle.settlement.specs.Records.{positionsIn}
+use Rattle.dayfile.specs.Records.{positionsIn}
 use Rattle.settlement.specs.Settling.{amountOf}
 use Rattle.settlement.specs.Steps.{entryOf}
 use Rattle.numbers.proofs.Chain.{by-two, at-end}

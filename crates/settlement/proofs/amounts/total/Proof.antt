@@ -1,5 +1,5 @@
 use mathlib.Core.Path.{_∙_}
-use Rattle.settlement.specs.Records.{marksIn, positionsIn}
+use Rattle.dayfile.specs.Records.{marksIn, positionsIn}
 use Rattle.numbers.proofs.Signed.{back}
 use Rattle.settlement.proofs.Kept.{kept-bounded, kept-sum}
 use borrow.Author.Needs.{needs}

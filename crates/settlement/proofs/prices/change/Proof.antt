@@ -1,5 +1,5 @@
 use mathlib.Core.Path.{_∙_}
-use Rattle.settlement.specs.declared.records.Mark.{Mark}
+use Rattle.dayfile.specs.declared.records.Mark.{Mark}
 use Rattle.settlement.specs.Prices.{orToday}
 use Rattle.numbers.proofs.Chain.{by-one}
 use Rattle.numbers.proofs.Signed.{back}

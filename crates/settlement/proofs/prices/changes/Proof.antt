@@ -1,9 +1,9 @@
 use Prim.Native.Nat.{_≤_, _<_, _-_}
 use mathlib.Core.Path.{_≡_, refl, _∙_}
 use native.Mathlib.Omega.{arith}
-use Rattle.settlement.specs.Limits.{fileLimits}
+use Rattle.dayfile.specs.Limits.{fileLimits}
 use Rattle.numbers.specs.Folds.{front}
-use Rattle.settlement.specs.Records.{marksIn, correctionsIn}
+use Rattle.dayfile.specs.Records.{marksIn, correctionsIn}
 use Rattle.settlement.specs.Prices.{changeOf, finalOf}
 use Rattle.settlement.specs.Steps.{blank}
 use Rattle.numbers.proofs.Chain.{at-end}

@@ -3,10 +3,10 @@ use mathlib.Core.Path.{_≡_, refl}
 use mathlib.Core.Logic.{⊎-elim}
 use native.Mathlib.Omega.{arith}
 use native.Mathlib.Nat.{le-antisymm}
-use Rattle.settlement.specs.Limits.{fileLimits}
+use Rattle.dayfile.specs.Limits.{fileLimits}
 use Rattle.settlement.proofs.Latests.{latests-none, latests-more, latests-same}
 use lib.ListN.{length, length-set}
-use Rattle.settlement.specs.Records.{correctionsIn}
+use Rattle.dayfile.specs.Records.{correctionsIn}
 use Rattle.settlement.specs.Steps.{EachLatest}
 use borrow.Author.Needs.{needs}
 use Rattle.settlement.proofs.prices.latests.Statement.{statement}

@@ -1,21 +1,20 @@
-use mathlib.Core.Path.{refl, sym, _∙_}
-use Rattle.settlement.proofs.Opening.{laid-out}
-use Rattle.settlement.proofs.Plans.{answered, refuses}
+use mathlib.Core.Path.{refl}
+use Rattle.settlement.proofs.Plans.{answered, sound, refuses}
 use borrow.Author.Needs.{needs}
 use Rattle.settlement.proofs.settling.settle.Statement.{statement}
 use Rattle.settlement.proofs.settling.settle.Tie as tie
 
-settle-laid-out-requires : tie.Need-settle-laid-out-requires
-settle-laid-out-requires c κs =
-    laid-out _ (sym (c .before .before .before .before .open-file .ensures) ∙ c .before .before .d .given .1)
+settle-sound-requires : tie.Need-settle-sound-requires
+settle-sound-requires c κs = sound _ (c .before .before .before .before .judge .ensures) (c .before .before .counts .given .1)
 
 returns : tie.Need-returns
-returns c =
-    answered _ _ (c .before .before .before .open-file .ensures) (c .before .k .given .1) (refuses refl)
+returns c = answered _ _ (c .before .before .before .judge .ensures) (c .before .number .given .1) (refuses refl)
+
+same-length : tie.Need-same-length
+same-length c = search needs
 
 returns-2 : tie.Need-returns-2
-returns-2 c =
-    answered _ _ (c .before .before .before .before .before .before .open-file .ensures) (c .before .before .before .before .d .given .1) (c .before .settle-laid-out .ensures)
+returns-2 c = answered _ _ (c .before .before .before .before .before .before .judge .ensures) (c .before .before .before .before .counts .given .1) (c .before .settle-sound .ensures)
 
 pub settle-spec : {M : Type 1} → statement M
 settle-spec =
@@ -24,7 +23,7 @@ settle-spec =
     (λ c κs. search needs)
     (λ c. search needs)
     (λ c. search needs)
-    settle-laid-out-requires
+    settle-sound-requires
     returns
-    (λ c. search needs)
+    same-length
     returns-2)

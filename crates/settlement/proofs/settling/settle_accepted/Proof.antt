@@ -1,4 +1,4 @@
-use Rattle.settlement.specs.Records.{marksIn, correctionsIn}
+use Rattle.dayfile.specs.Records.{marksIn, correctionsIn}
 use Rattle.settlement.specs.Prices.{finalOf}
 use Rattle.settlement.proofs.Changes.{bounded-as}
 use mathlib.Core.Path.{_∙_}
@@ -13,25 +13,25 @@ use Rattle.settlement.proofs.settling.settle_accepted.Tie as tie
 
 changes-requires : tie.Need-changes-requires
 changes-requires c κs =
-    c .before .before .before .pre .0 .small .marks
+    c .before .before .before .pre .0 .accepted .small .marks
 
 pay-requires : tie.Need-pay-requires
 pay-requires c κs =
     let s = c .before .before .before .before .before .before in
     let bound = bounded-as (marksIn (s .args .marks .now)) (finalOf (marksIn (s .args .marks .now)) (correctionsIn (s .args .corrections .now))) (c .before .before .changes .ensures) in
-    ((payable _ (s .pre .0), bound), s .pre .1)
+    ((payable _ (s .pre .0 .accepted), bound), s .pre .1)
 
 total-requires : tie.Need-total-requires
 total-requires c κs =
     let s = c .before .before .before .before .before .before .before .before .before in
     let bound = bounded-as (marksIn (s .args .marks .now)) (finalOf (marksIn (s .args .marks .now)) (correctionsIn (s .args .corrections .now))) (c .before .before .before .before .before .changes .ensures) in
-    (payable _ (s .pre .0), bound)
+    (payable _ (s .pre .0 .accepted), bound)
 
 total-requires-2 : tie.Need-total-requires-2
 total-requires-2 c κs =
     let s = c .before .before .before .before .before .before .before .before .before .before .before in
     let bound = bounded-as (marksIn (s .args .marks .now)) (finalOf (marksIn (s .args .marks .now)) (correctionsIn (s .args .corrections .now))) (c .before .before .before .before .before .before .before .changes .ensures) in
-    (payable _ (s .pre .0), bound)
+    (payable _ (s .pre .0 .accepted), bound)
 
 same-length : tie.Need-same-length
 same-length c =
@@ -39,13 +39,14 @@ same-length c =
 
 returns : tie.Need-returns
 returns c =
-    let acc = c .before .before .before .before .before .before .before .before .before .before .before .before .before .before .pre .0 in
-    let q = c .before .before .before .before .before .before .before .before .before .before .changes .ensures in
-    let x = c .before .before .before .before in
-    let y = c .before .before in
+    let passing = c .before .before .before .before .before .before .before .before .before .before .before .before .before .pre .0 in
+    let acc = passing .accepted in
+    let q = c .before .before .before .before .before .before .before .before .before .changes .ensures in
+    let x = c .before .before .before in
+    let y = c .before in
     record {
-      answer = settled-by (c .before .position-count .ensures) (back (x .total .result) (x .total .ok) ∙ x .total .ensures ∙ rw q (sum-is _ acc Aud)) (back (y .total2 .result) (y .total2 .ok) ∙ y .total2 .ensures ∙ rw q (sum-is _ acc Nzd)) (c .resent-count .ensures);
-      written = c .before .before .before .before .before .before .before .pay .ensures ∙ rw q (paid-is _ acc _);
+      answer = settled-by (c .position-count .ensures) (back (x .total .result) (x .total .ok) ∙ x .total .ensures ∙ rw q (sum-is _ acc Aud)) (back (y .total2 .result) (y .total2 .ok) ∙ y .total2 .ensures ∙ rw q (sum-is _ acc Nzd)) (passing .counted);
+      written = c .before .before .before .before .before .before .pay .ensures ∙ rw q (paid-is _ acc _);
     }
 
 pub settle-accepted-spec : {M : Type 1} → statement M
@@ -56,7 +57,6 @@ settle-accepted-spec =
     pay-requires
     total-requires
     total-requires-2
-    (λ c κs. search needs)
     (λ c κs. search needs)
     same-length
     returns)

@@ -1,0 +1,78 @@
+use borrow.Author.Needs.{needs}
+use Rattle.checks.proofs.order.size.Statement.{statement}
+use Rattle.checks.proofs.order.size.Tie as tie
+
+returns : tie.Need-returns
+returns c =
+    rw (c .before .enum-told .given .1) (c .mark-count .ensures)
+
+returns-2 : tie.Need-returns-2
+returns-2 c =
+    rw (c .before .enum-told2 .given .1) (c .mark-count2 .ensures)
+
+returns-3 : tie.Need-returns-3
+returns-3 c =
+    rw (c .before .enum-told3 .given .1) (c .mark-count3 .ensures)
+
+returns-4 : tie.Need-returns-4
+returns-4 c =
+    rw (c .before .enum-told4 .given .1) (c .mark-count4 .ensures)
+
+returns-5 : tie.Need-returns-5
+returns-5 c =
+    rw (c .before .enum-told5 .given .1) (c .mark-count5 .ensures)
+
+returns-6 : tie.Need-returns-6
+returns-6 c =
+    rw (c .before .enum-told6 .given .1) (c .correction-count .ensures)
+
+returns-7 : tie.Need-returns-7
+returns-7 c =
+    rw (c .before .enum-told7 .given .1) (c .correction-count2 .ensures)
+
+returns-8 : tie.Need-returns-8
+returns-8 c =
+    rw (c .before .enum-told8 .given .1) (c .correction-count3 .ensures)
+
+returns-9 : tie.Need-returns-9
+returns-9 c =
+    rw (c .before .enum-told9 .given .1) (c .position-count .ensures)
+
+returns-10 : tie.Need-returns-10
+returns-10 c =
+    rw (c .before .enum-told10 .given .1) (c .position-count2 .ensures)
+
+pub size-spec : {M : Type 1} → statement M
+size-spec =
+    tie.close
+    (tie.spec
+    (λ c. search needs)
+    (λ c κs. search needs)
+    (λ c. search needs)
+    (λ c κs. search needs)
+    (λ c. search needs)
+    (λ c κs. search needs)
+    (λ c. search needs)
+    (λ c κs. search needs)
+    (λ c. search needs)
+    (λ c κs. search needs)
+    (λ c. search needs)
+    (λ c κs. search needs)
+    (λ c. search needs)
+    (λ c κs. search needs)
+    (λ c. search needs)
+    (λ c κs. search needs)
+    (λ c. search needs)
+    (λ c κs. search needs)
+    (λ c. search needs)
+    (λ c κs. search needs)
+    returns
+    returns-2
+    returns-3
+    returns-4
+    returns-5
+    returns-6
+    returns-7
+    returns-8
+    returns-9
+    returns-10)

@@ -1,0 +1,26 @@
+use native.Mathlib.Omega.{arith}
+use mathlib.Core.Path.{refl}
+use Rattle.checks.proofs.Pricing.{by-lookup, tick-positive}
+use Rattle.checks.specs.Products.{tickOf, tickIn}
+use borrow.Author.Needs.{needs}
+use Rattle.checks.proofs.products.tick.Statement.{statement}
+use Rattle.checks.proofs.products.tick.Tie as tie
+
+returns : tie.Need-returns
+unfolding tickOf
+returns c =
+    (by-lookup tickIn _ (c .before .before .before .lookup .ensures) (c .before .q .given .1) refl, tick-positive _ (c .before .before .before .lookup .ensures) (c .before .q .given .1))
+
+returns-2 : tie.Need-returns-2
+unfolding tickOf
+returns-2 c =
+    (by-lookup tickIn _ (c .before .before .lookup .ensures) (c .enum-told .given .1) refl, omega arith)
+
+pub tick-spec : {M : Type 1} → statement M
+tick-spec = tie.close
+    (tie.spec
+    (λ c κs. search needs)
+    (λ c. search needs)
+    (λ c. search needs)
+    returns
+    returns-2)

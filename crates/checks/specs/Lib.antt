@@ -1,0 +1,6 @@
+pub mod Products
+pub mod Faults
+pub mod Checks
+pub mod Judging
+pub mod Steps
+pub mod Earlier

@@ -1,0 +1,100 @@
+// What each check looks for in a record, or in a record and an earlier one.
+use crate::products;
+use dayfile::Correction;
+use dayfile::Mark;
+use dayfile::Position;
+use dayfile::mark_at;
+use dayfile::mark_count;
+ghost use mathlib.Core.Path.{_≡_};
+ghost use Rattle.dayfile.specs.Records.{marksIn, markAt};
+ghost use Rattle.checks.specs.Faults.{offTick, badCode, badDate, highMark, offMark, sameContract, noMark, badPrice, clashing, sameNumber, badLots};
+
+const YEAR_LIMIT: u8 = 99;
+
+const LEAST_LOTS: i64 = -1_000_000;
+
+const MOST_LOTS: i64 = 1_000_000;
+
+// Whether a price is not a multiple of the tick of a mark's product.
+fn off_tick(m: Mark, p: u32) -> bool
+    ensures { λ r. ⌜ r ≡ offTick m p ⌝ }
+{
+    p % products::tick(m.code) != 0
+}
+
+// 4: the code is not in the product table.
+pub(crate) fn bad_code(m: Mark) -> bool
+    ensures { λ r. ⌜ r ≡ badCode m ⌝ }
+{
+    !products::is_listed(m.code)
+}
+
+// 5: the month is not one of the product's, or the year is above 99.
+pub(crate) fn bad_date(m: Mark) -> bool
+    ensures { λ r. ⌜ r ≡ badDate m ⌝ }
+{
+    !products::is_quoted(m.code, m.month) | (m.year > YEAR_LIMIT)
+}
+
+// 6: a price is above the highest one.
+pub(crate) fn high_mark(m: Mark) -> bool
+    ensures { λ r. ⌜ r ≡ highMark m ⌝ }
+{
+    products::above_limit(m.previous) | products::above_limit(m.today)
+}
+
+// 7: a price is not a multiple of the product's tick.
+pub(crate) fn off_mark(m: Mark) -> bool
+    ensures { λ r. ⌜ r ≡ offMark m ⌝ }
+{
+    off_tick(m, m.previous) | off_tick(m, m.today)
+}
+
+// 8: two marks agree in code, month and year.
+pub(crate) fn same_contract(m: Mark, n: Mark) -> bool
+    ensures { λ r. ⌜ r ≡ sameContract m n ⌝ }
+{
+    (m.code.0 == n.code.0) & (m.code.1 == n.code.1) & (m.month == n.month) & (m.year == n.year)
+}
+
+// 9 and 12: there is no mark with this index.
+pub(crate) fn no_mark(marks: &[u8], k: usize) -> bool
+    ensures { λ r. ⌜ r ≡ noMark (marksIn (now (marks .entry))) k ⌝ }
+{
+    mark_count(marks) <= k
+}
+
+// Whether a correction's price breaks 6 or 7 for a mark.
+fn bad_price(m: Mark, c: Correction) -> bool
+    ensures { λ r. ⌜ r ≡ badPrice m c ⌝ }
+{
+    products::above_limit(c.price) | off_tick(m, c.price)
+}
+
+// Whether two corrections bear one number.
+pub(crate) fn same_number(b: Correction, c: Correction) -> bool
+    ensures { λ r. ⌜ r ≡ sameNumber b c ⌝ }
+{
+    b.number == c.number
+}
+
+// 11: two corrections agree in number but differ in mark or price.
+pub(crate) fn clash(b: Correction, c: Correction) -> bool
+    ensures { λ r. ⌜ r ≡ clashing b c ⌝ }
+{
+    (b.number == c.number) & ((b.mark != c.mark) | (b.price != c.price))
+}
+
+// 13: the lots are 0, or more than a position may have.
+pub(crate) fn bad_lots(p: Position) -> bool
+    ensures { λ r. ⌜ r ≡ badLots p ⌝ }
+{
+    (p.lots == 0) | (p.lots < LEAST_LOTS) | (p.lots > MOST_LOTS)
+}
+
+// 10: the price breaks 6 or 7 for the correction's mark.
+pub(crate) fn correction_off(marks: &[u8], c: Correction) -> bool
+    ensures { λ r. ⌜ r ≡ badPrice (markAt (marksIn (now (marks .entry))) (c .mark)) c ⌝ }
+{
+    bad_price(mark_at(marks, c.mark), c)
+}

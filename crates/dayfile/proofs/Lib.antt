@@ -1,0 +1,5 @@
+pub mod Opening
+pub mod Parts
+pub mod Made
+mod Header
+mod Fields

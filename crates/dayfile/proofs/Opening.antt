@@ -1,0 +1,71 @@
+-- A file that passes checks 1 to 3.
+use mathlib.Core.Path.{_≡_, refl}
+use mathlib.Core.Bool.{Bool, true, false, cond, _&&_}
+use mathlib.Core.List.{List}
+use Prim.Native.Nat.{ℕ, _≤_}
+use native.Mathlib.Omega.{arith}
+use lib.Dec.{leb, ltb, eqb}
+use lib.ListN.{length}
+use borrow.Author.Tests.{eqb-true, eq-eqb, ltb-false, le-ltb, leb-true, le-leb}
+use Rattle.numbers.specs.Bytes.{u32At}
+use Rattle.dayfile.specs.Limits.{Limits, fileLimits}
+use Rattle.dayfile.specs.Layout.{countsOf, headerSize, correctionsStart, positionsStart, lengthOf, withinLimits, asLaidOut, openedOf}
+use Rattle.dayfile.specs.Steps.{LaidOut}
+use Rattle.dayfile.specs.declared.file.DayFile.{DayFile}
+use Rattle.dayfile.specs.declared.file.Opened.{Opened}
+use Rattle.dayfile.specs.declared.file.Opened.the-variants.{File, Refused}
+use Rattle.numbers.proofs.Truth.{and-left, and-right}
+
+pub record Laid (l : Limits) (f : List ℕ) : Type 0 where
+  pub header : headerSize ≤ length f
+  pub marks-fit : u32At f 0 ≤ l .marks
+  pub corrections-fit : u32At f 8 ≤ l .corrections
+  pub positions-fit : u32At f 16 ≤ l .positions
+  pub marks-at : u32At f 4 ≡ headerSize
+  pub corrections-at : u32At f 12 ≡ correctionsStart (countsOf f)
+  pub positions-at : u32At f 20 ≡ positionsStart (countsOf f)
+  pub ends-at : length f ≡ lengthOf (countsOf f)
+
+module _ (l : Limits) (f : List ℕ) where
+  by-tests : (short inside laid : Bool) {d : DayFile} → cond short (Refused 1) (cond inside (cond laid (File (countsOf f)) (Refused 3)) (Refused 2)) ≡ File d
+      → (short ≡ false) × (inside ≡ true) × (laid ≡ true) × (countsOf f ≡ d)
+  by-tests true inside laid p = absurd (let z : _≡_ {A = ℕ} 0 1 = cc in omega arith)
+  by-tests false false laid p = absurd (let z : _≡_ {A = ℕ} 0 1 = cc in omega arith)
+  by-tests false true false p = absurd (let z : _≡_ {A = ℕ} 0 1 = cc in omega arith)
+  by-tests false true true p = (refl, refl, refl, cc)
+
+  laid-of : ltb (length f) headerSize ≡ false → withinLimits l (countsOf f) ≡ true → asLaidOut f (countsOf f) ≡ true → Laid l f
+  unfolding countsOf
+  laid-of a b c =
+      let d = countsOf f in
+      let b′ = and-left (leb (d .marks) (l .marks) && leb (d .corrections) (l .corrections)) (leb (d .positions) (l .positions)) b in
+      let c′ = and-left (eqb (u32At f 4) headerSize && eqb (u32At f 12) (correctionsStart d) && eqb (u32At f 20) (positionsStart d)) (eqb (length f) (lengthOf d)) c in
+      let c″ = and-left (eqb (u32At f 4) headerSize && eqb (u32At f 12) (correctionsStart d)) (eqb (u32At f 20) (positionsStart d)) c′ in
+      record {
+        header = ltb-false _ _ a;
+        marks-fit = leb-true _ _ (and-left (leb (d .marks) (l .marks)) (leb (d .corrections) (l .corrections)) b′);
+        corrections-fit = leb-true _ _ (and-right (leb (d .marks) (l .marks)) (leb (d .corrections) (l .corrections)) b′);
+        positions-fit = leb-true _ _ (and-right (leb (d .marks) (l .marks) && leb (d .corrections) (l .corrections)) (leb (d .positions) (l .positions)) b);
+        marks-at = eqb-true _ _ (and-left (eqb (u32At f 4) headerSize) (eqb (u32At f 12) (correctionsStart d)) c″);
+        corrections-at = eqb-true _ _ (and-right (eqb (u32At f 4) headerSize) (eqb (u32At f 12) (correctionsStart d)) c″);
+        positions-at = eqb-true _ _ (and-right (eqb (u32At f 4) headerSize && eqb (u32At f 12) (correctionsStart d)) (eqb (u32At f 20) (positionsStart d)) c′);
+        ends-at = eqb-true _ _ (and-right (eqb (u32At f 4) headerSize && eqb (u32At f 12) (correctionsStart d) && eqb (u32At f 20) (positionsStart d)) (eqb (length f) (lengthOf d)) c);
+      }
+
+  pub opens : {d : DayFile} → openedOf l f ≡ File d → Laid l f × (countsOf f ≡ d)
+  unfolding openedOf
+  opens p =
+      let (a, b, c, e) = by-tests (ltb (length f) headerSize) (withinLimits l (countsOf f)) (asLaidOut f (countsOf f)) p in
+      (laid-of a b c, e)
+
+  pub laid-opens : Laid l f → openedOf l f ≡ File (countsOf f)
+  unfolding openedOf countsOf
+  laid-opens h =
+      simp (le-ltb _ _ (h .header), le-leb _ _ (h .marks-fit), le-leb _ _ (h .corrections-fit), le-leb _ _ (h .positions-fit), eq-eqb _ _ (h .marks-at), eq-eqb _ _ (h .corrections-at), eq-eqb _ _ (h .positions-at), eq-eqb _ _ (h .ends-at))
+
+-- the same, as the settlement asks it
+pub laid-out : (f : List ℕ) {d : DayFile} → openedOf fileLimits f ≡ File d → LaidOut f d
+unfolding countsOf
+laid-out f p =
+    let (h, e) = opens fileLimits f p in
+    rw (← e) (record { limited = record { marks = h .marks-fit; corrections = h .corrections-fit; positions = h .positions-fit }; whole = h .ends-at })

@@ -1,0 +1,48 @@
+-- The sections of a file that is laid out.
+use mathlib.Core.Path.{_≡_, _∙_}
+use mathlib.Core.List.{List, map}
+use Prim.Native.Nat.{ℕ, _+_, _-_, _*_, _/_, _≤_}
+use native.Mathlib.Omega.{arith}
+use lib.ListN.{length, length-drop}
+use lib.Seq.{length-take-le}
+use Rattle.numbers.specs.Bytes.{part, recordsOf}
+use Rattle.dayfile.specs.Records.{markSize, correctionSize, positionSize, markOf, correctionOf, positionOf, listsOf}
+use Rattle.dayfile.specs.Layout.{lengthOf, headerSize, correctionsStart, positionsStart, listsIn}
+use Rattle.dayfile.specs.Steps.{LaidOut, Small}
+use Rattle.dayfile.specs.declared.file.DayFile.{DayFile}
+use Rattle.numbers.proofs.Sections.{size-is}
+
+pub length-part : (a n : ℕ) (s : List ℕ) → a + n ≤ length s → length (part a n s) ≡ n
+length-part a n s h = length-take-le n _ (rw (length-drop a s) (omega arith))
+
+-- how many records stand in a part of a file
+sized : {R : Type 0} (f : List ℕ → R) (w a k n : ℕ) (s : List ℕ) → a + k ≤ length s → k / w ≡ n → length (map f (recordsOf w (part a k s))) ≡ n
+sized f w a k n s h e = size-is f w (part a k s) ∙ rw (length-part a k s h) e
+
+module _ (s : List ℕ) (d : DayFile) (h : LaidOut s d) where
+  pub marks-sized : length (listsIn s d .marks) ≡ d .marks
+  marks-sized = sized markOf markSize headerSize (markSize * d .marks) (d .marks) s (omega (arith, h .whole)) (omega arith)
+
+  pub corrections-sized : length (listsIn s d .corrections) ≡ d .corrections
+  corrections-sized = sized correctionOf correctionSize (correctionsStart d) (correctionSize * d .corrections) (d .corrections) s (omega (arith, h .whole)) (omega arith)
+
+  pub positions-sized : length (listsIn s d .positions) ≡ d .positions
+  positions-sized = sized positionOf positionSize (positionsStart d) (positionSize * d .positions) (d .positions) s (omega (arith, h .whole)) (omega arith)
+
+  -- the lists of a file that opens are within the limits
+  pub small : Small (listsIn s d)
+  small =
+      record {
+        marks = rw marks-sized (h .limited .marks);
+        corrections = rw corrections-sized (h .limited .corrections);
+        positions = rw positions-sized (h .limited .positions);
+      }
+
+-- the parts of a file between its offsets are its sections
+pub parts-are : (s : List ℕ) (d : DayFile) {a b e : ℕ} → a ≡ correctionsStart d → b ≡ positionsStart d → e ≡ lengthOf d
+    → listsOf (part headerSize (a - headerSize) s) (part a (b - a) s) (part b (e - b) s) ≡ listsIn s d
+parts-are s d {a} {b} {e} p q r =
+    let m : a - headerSize ≡ markSize * d .marks = omega arith in
+    let c : b - a ≡ correctionSize * d .corrections = omega arith in
+    let n : e - b ≡ positionSize * d .positions = omega arith in
+    rw (m, c, n, p, q)

@@ -1,0 +1,17 @@
+use borrow.Author.Needs.{needs}
+use Rattle.dayfile.proofs.records.correction_of.Statement.{statement}
+use Rattle.dayfile.proofs.records.correction_of.Tie as tie
+
+returns : tie.Need-returns
+returns c =
+    cc
+
+pub correction-of-spec : {M : Type 1} → statement M
+correction-of-spec =
+    tie.close
+    (tie.spec
+    (λ c κs. search needs)
+    (λ c κs. search needs)
+    (λ c. search needs)
+    (λ c κs. search needs)
+    returns)

@@ -1,0 +1,5 @@
+pub mod Limits
+pub mod Records
+pub mod Layout
+pub mod Making
+pub mod Steps

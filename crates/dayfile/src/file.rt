@@ -1,0 +1,105 @@
+// The layout of a day file, and its header: checks 1, 2 and 3.
+use crate::bytes::u32_at;
+use crate::records::Correction;
+use crate::records::Mark;
+use crate::records::Position;
+ghost use mathlib.Core.Path.{_≡_};
+ghost use Prim.Native.Nat.{_+_, _*_, _<_, _≤_};
+ghost use lib.ListN.{length};
+ghost use Rattle.dayfile.specs.Limits.{fileLimits};
+ghost use Rattle.dayfile.specs.Layout.{headerSize, countsOf, correctionsStart, positionsStart, lengthOf, withinLimits, asLaidOut, openedOf};
+
+// The counts of a day file's three sections.
+pub struct DayFile {
+    pub marks: u32,
+    pub corrections: u32,
+    pub positions: u32,
+}
+
+impl DayFile {
+    pub const MAX_MARKS: usize = 256;
+
+    pub const MAX_CORRECTIONS: usize = 512;
+
+    pub const MAX_POSITIONS: usize = 4_096;
+
+    pub const HEADER: usize = 24;
+
+    // Where the corrections start, in bytes from the file's start.
+    pub fn corrections_start(self) -> usize
+        ensures { λ r. ⌜ r ≡ correctionsStart self ⌝ }
+    {
+        DayFile::HEADER + Mark::SIZE * (self.marks as usize)
+    }
+
+    // Where the positions start.
+    pub fn positions_start(self) -> usize
+        ensures { λ r. ⌜ r ≡ positionsStart self ⌝ }
+    {
+        self.corrections_start() + Correction::SIZE * (self.corrections as usize)
+    }
+
+    // Where the file ends.
+    pub fn length(self) -> usize
+        ensures { λ r. ⌜ r ≡ lengthOf self ⌝ }
+    {
+        self.positions_start() + Position::SIZE * (self.positions as usize)
+    }
+}
+
+// The file's counts, or the number of the check that it fails.
+pub enum Opened {
+    File(DayFile),
+    Refused(u32),
+}
+
+// The counts of the header.
+fn counts(s: &[u8]) -> DayFile
+    requires { ⌜ headerSize ≤ length (now s) ⌝ }
+    ensures { λ r. ⌜ r ≡ countsOf (now (s .entry)) ⌝ }
+{
+    DayFile {
+        marks: u32_at(s, 0),
+        corrections: u32_at(s, 8),
+        positions: u32_at(s, 16),
+    }
+}
+
+// Whether the counts are within the file's limits.
+fn limited(d: DayFile) -> bool
+    ensures { λ r. ⌜ r ≡ withinLimits fileLimits d ⌝ }
+{
+    (d.marks as usize <= DayFile::MAX_MARKS)
+        & (d.corrections as usize <= DayFile::MAX_CORRECTIONS)
+        & (d.positions as usize <= DayFile::MAX_POSITIONS)
+}
+
+// Whether the offsets and the file's length are those of the layout.
+fn laid_out(s: &[u8], d: DayFile) -> bool
+    requires { ⌜ headerSize ≤ length (now s) ⌝ }
+    ensures { λ r. ⌜ r ≡ asLaidOut (now (s .entry)) d ⌝ }
+{
+    (u32_at(s, 4) as usize == DayFile::HEADER)
+        & (u32_at(s, 12) as usize == d.corrections_start())
+        & (u32_at(s, 20) as usize == d.positions_start())
+        & (s.len() == d.length())
+}
+
+// Checks 1 to 3: the file's counts, or the number of the first of these checks that it fails.
+pub fn open_file(s: &[u8]) -> Opened
+    ensures { λ r. ⌜ r ≡ openedOf fileLimits (now (s .entry)) ⌝ }
+{
+    if s.len() < DayFile::HEADER {
+        return Opened::Refused(1);
+    }
+    let d = counts(s);
+    if limited(d) {
+        if laid_out(s, d) {
+            Opened::File(d)
+        } else {
+            Opened::Refused(3)
+        }
+    } else {
+        Opened::Refused(2)
+    }
+}
