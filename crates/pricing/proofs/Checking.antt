@@ -5,7 +5,8 @@ use native.Mathlib.Omega.{arith}
 use Rattle.pricing.specs.Prices.{priceLimit}
 use Rattle.pricing.specs.Products.{find}
 use Rattle.pricing.specs.Value.{Modest}
-use Rattle.pricing.specs.Calls.{Answer, ofProduct, judged, after, judgedProduct, checkIn, checkOf, ofChecked}
+use Rattle.pricing.specs.Calls.{Answer, ofProduct, judged, after}
+use Rattle.pricing.specs.Steps.{judgedProduct, checkIn, checkOf, ofChecked}
 use Rattle.pricing.specs.declared.products.Code.{Code}
 use Rattle.pricing.specs.declared.products.Product as table
 use Rattle.pricing.specs.declared.products.Terms.{Terms}

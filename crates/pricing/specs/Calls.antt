@@ -14,8 +14,6 @@ use Rattle.pricing.specs.declared.products.Found.{Found}
 use Rattle.pricing.specs.declared.products.Found.the-variants.{At, Missing}
 use Rattle.pricing.specs.declared.contract.Judged.{Judged}
 use Rattle.pricing.specs.declared.contract.Judged.the-variants.{Passed, Failed}
-use Rattle.pricing.specs.declared.contract.Checked.{Checked}
-use Rattle.pricing.specs.declared.contract.Checked.the-variants as checked
 use Rattle.pricing.specs.declared.contract.Priced.{Priced}
 use Rattle.pricing.specs.declared.contract.Priced.the-variants as priced
 
@@ -68,21 +66,3 @@ ofBond (CashRate cents) f = refused 4
 unfoldable pub bracketOf : Code → ℕ → Answer
 bracketOf code p =
     ofProduct (find code) (λ q. ofBond (q .terms) (λ c n. after (judged (q .tick) p) (given (bracket scale c n (bondDivisor p)))))
-
--- ---- checks 4, 6 and 7 by themselves, as the calls share them
-
-abbrev pub judgedProduct : Product → Judged → Checked
-judgedProduct q Passed = checked.Product (q .terms) (q .tick)
-judgedProduct q (Failed k) = checked.Refused k
-
-abbrev pub checkIn : Found → ℕ → Checked
-checkIn (At q) p = judgedProduct q (judged (q .tick) p)
-checkIn Missing p = checked.Refused 4
-
-unfoldable pub checkOf : Code → ℕ → Checked
-checkOf code p = checkIn (find code) p
-
--- the answer for the terms and the tick that pass
-abbrev pub ofChecked : Checked → (Terms → ℕ → Answer) → Answer
-ofChecked (checked.Product t tick) f = f t tick
-ofChecked (checked.Refused k) f = refused k

@@ -1,5 +1,5 @@
 -- `check` meets its contract.
-use Rattle.pricing.specs.Calls.{checkOf}
+use Rattle.pricing.specs.Steps.{checkOf}
 use Rattle.pricing.proofs.Table.{sound}
 use borrow.Author.Needs.{needs}
 use Rattle.pricing.proofs.contract.check.Statement.{statement}
