@@ -39,6 +39,22 @@ fn judge(tick: u32, p: u32) -> Judged
     Judged::Passed
 }
 
+// The value of one contract in cents.
+pub fn value(code: Code, p: u32) -> Priced
+    ensures { λ r. ⌜ said r ≡ valueOf code p ⌝ }
+{
+    match lookup(code) {
+        Found::At(q) => match judge(q.tick, p) {
+            Judged::Passed => {
+                let t = q.terms;
+                Priced::Given(value_at(t, p as u64))
+            }
+            Judged::Failed(k) => Priced::Refused(k),
+        },
+        Found::Missing => Priced::Refused(4),
+    }
+}
+
 // The terms and the tick of the product at a price that passes checks 4, 6 and 7, or the number of the first that fails.
 enum Checked {
     Product { terms: Terms, tick: u32 },
@@ -63,16 +79,6 @@ fn check(code: Code, p: u32) -> Checked
     }
 }
 
-// The value of one contract in cents.
-pub fn value(code: Code, p: u32) -> Priced
-    ensures { λ r. ⌜ said r ≡ valueOf code p ⌝ }
-{
-    match check(code, p) {
-        Checked::Product { terms, tick: _ } => Priced::Given(value_at(terms, p as u64)),
-        Checked::Refused(k) => Priced::Refused(k),
-    }
-}
-
 // The answers for two prices of one contract.
 pub struct TwoPriced(pub Priced, pub Priced);
 
@@ -86,6 +92,7 @@ pub fn two_values(code: Code, p: u32, q: u32) -> TwoPriced
             return TwoPriced(Priced::Given(v.0), Priced::Given(v.1));
         }
     }
+    // At least one is turned away, and each answers for itself.
     TwoPriced(value(code, p), value(code, q))
 }
 
