@@ -1,7 +1,7 @@
 -- Lists of bytes: what is cut out of them and put together from them.
-use mathlib.Core.Path.{refl}
+use mathlib.Core.Path.{_≡_, refl}
 use mathlib.Core.List.{List, [], _∷_, _++_, List·Memᴰ, List·Memᴰ·head, List·Memᴰ·tail, List·Memᴰ·not-nil}
-use Prim.Native.Nat.{ℕ, zero, suc, _+_, _<_}
+use Prim.Native.Nat.{ℕ, zero, suc, _+_, _*_, _/_, _%_, _<_}
 use native.Mathlib.Decide.{decLt}
 use native.Mathlib.Omega.{arith}
 use lib.ListN.{getD, drop, length-take, List·getD-eq-default}
@@ -41,3 +41,7 @@ record-bytes w (suc n) s b r (List·Memᴰ·tail m) = record-bytes w n (drop w s
 pub all-bytes : (rs : List (List ℕ)) → ((r : List ℕ) → List·Memᴰ r rs → Bytes r) → Bytes (bytesOf rs)
 all-bytes [] h = λ i. omega arith
 all-bytes (r ∷ rs) h = append-bytes r (bytesOf rs) (h r (List·Memᴰ·head refl)) (all-bytes rs (λ q m. h q (List·Memᴰ·tail m)))
+
+-- a number from its four bytes
+pub from-bytes : (n : ℕ) → n < 4294967296 → n % 256 + 256 * (n / 256 % 256) + 65536 * (n / 256 / 256 % 256) + 16777216 * (n / 256 / 256 / 256 % 256) ≡ n
+from-bytes n h = omega arith

@@ -1,6 +1,6 @@
 -- What settlement knows of the pricing part: laws that it exports.
-use mathlib.Core.Path.{_≡_, refl, sym, _∙_}
-use Prim.Native.Nat.{ℕ, _*_, _%_, _≤_, _<_, _∣_}
+use mathlib.Core.Path.{_≡_, refl}
+use Prim.Native.Nat.{ℕ, _*_, _%_, _≤_, _∣_}
 use native.Mathlib.Omega.{arith}
 use Rattle.pricing.specs.Calls.{Answer, given, refused, said, valueOf}
 use Rattle.pricing.specs.Products.{find}
