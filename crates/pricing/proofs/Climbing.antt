@@ -41,11 +41,11 @@ module _ {p n first v sum k : ℕ} (l : Climbed p n first v sum k) where
     unfolding scale
     first-low = rw (l .first-is, ← (factor-first scale (bondDivisor p))) (factor-cap h 1)
 
-    pub v-low : v ≤ 100_000_000
+    v-low : v ≤ 100_000_000
     unfolding scale
     v-low = rw (l .v-is) (factor-cap h k)
 
-    pub sum-low : k ≤ 40 → sum ≤ 4_000_000_000
+    sum-low : k ≤ 40 → sum ≤ 4_000_000_000
     unfolding scale
     sum-low g = rw (l .sum-is) (le-trans (annuity-cap h k) (mul-le-mul-right scale g))
 
@@ -67,12 +67,12 @@ pub step-low : {p n first v sum k w : ℕ} → Climbed p n first v sum k → p �
 step-low {w = w} l h g i e = omega (arith, sum-low l h (le-trans (l .upto) g), v-low (next l w i e) h)
 
 -- at the end of a ladder of n rungs, with a coupon of at most 3
-pub coupons-low : {p n first v sum k x : ℕ} → Climbed p n first v sum k → p ≤ priceLimit → n ≤ 40 → x ≤ 3 → x * sum ≤ 3 * 4_000_000_000
-coupons-low l h g e = mul-le-mul {n₂ = 3} e (sum-low l h (le-trans (l .upto) g))
+pub ends-low : {p n first v sum k x : ℕ} → Climbed p n first v sum k → p ≤ priceLimit → n ≤ 40 → x ≤ 3 → (x ≤ 3) × (sum ≤ 4_000_000_000) × (v ≤ 100_000_000)
+ends-low l h g e = (e, sum-low l h (le-trans (l .upto) g), v-low l h)
 
-pub climbed : {p n first v sum k : ℕ} (x : ℕ) → Climbed p n first v sum k → n ≤ k → x * sum + 100 * v ≡ bracket scale x n (bondDivisor p)
+pub climbed : {p n first v sum k r : ℕ} (x : ℕ) → Climbed p n first v sum k → n ≤ k → r ≡ x * sum + 100 * v → r ≡ bracket scale x n (bondDivisor p)
 unfolding bracket
-climbed x l h = let e = le-antisymm (l .upto) h in rw (l .v-is, l .sum-is, e)
+climbed x l h is = let e = le-antisymm (l .upto) h in is ∙ rw (l .v-is, l .sum-is, e)
 
 -- a bracket times its face
 pub face-low : {p b face coupon halves : ℕ} → Modest (Bond face coupon halves) → p ≤ priceLimit → b ≡ bracket scale coupon halves (bondDivisor p) → b * face ≤ 440_000_000_000 * 100_000

@@ -7,6 +7,7 @@ pub mod Bounds
 pub mod Climbing
 pub mod Rise
 pub mod Answers
+pub mod Checking
 pub mod Refusals
 pub mod Accuracy
 pub mod Bonds

@@ -1,5 +1,5 @@
 -- A single-contract call is turned away exactly by the first of its checks whose condition holds.
-use mathlib.Core.Path.{_≡_, refl, sym, ap, subst, _∙_}
+use mathlib.Core.Path.{_≡_, refl, sym, ap, _∙_}
 use mathlib.Core.Bool.{Bool, true, false, not, cond}
 use mathlib.Core.List.{List}
 use mathlib.Core.Logic.{_↔_}
@@ -9,14 +9,14 @@ use lib.Dec.{leb, eqb}
 use Rattle.numbers.specs.Order.{Decides, Clear}
 use Rattle.numbers.specs.declared.Found as found
 use Rattle.numbers.specs.declared.Found.the-variants as index
-use Rattle.numbers.proofs.Truth.{Tells, not-both, tells-as, tells-not, tells-above, tells-divides}
+use Rattle.numbers.proofs.Truth.{Tells, not-both, tells-not, tells-above, tells-divides}
 use Rattle.numbers.proofs.Order.{Finds, finds-whole, Decision, met, clear, pick, decision, met-exactly, clear-exactly}
 use Rattle.pricing.specs.Prices.{priceLimit}
 use Rattle.pricing.specs.Products.{find}
 use Rattle.pricing.specs.Ladder.{bracket}
 use Rattle.pricing.specs.Value.{scale, bondDivisor, valueBy}
 use Rattle.pricing.specs.Calls.{Answer, given, refused, check, ofProduct, ofBond, judged, after, valueOf, tickValueOf, bracketOf}
-use Rattle.pricing.specs.Conditions.{Unlisted, Fault, NoProduct, NoBond, AboveLimit, OffTick, NextAboveLimit, faultNumber, Holds, valueFaults, tickValueFaults, bracketFaults, Exactly}
+use Rattle.pricing.specs.Conditions.{Fault, NoProduct, NoBond, AboveLimit, OffTick, NextAboveLimit, faultNumber, Holds, valueFaults, tickValueFaults, bracketFaults, Exactly}
 use Rattle.pricing.specs.declared.products.Code.{Code}
 use Rattle.pricing.specs.declared.products.Product.{Product}
 use Rattle.pricing.specs.declared.products.Found.{Found}
@@ -24,7 +24,7 @@ use Rattle.pricing.specs.declared.products.Found.the-variants.{At, Missi
 use Rattle.pricing.specs.declared.products.Terms.{Terms}
 use Rattle.pricing.specs.declared.products.Terms.the-variants.{Bill, Bond, CashRate}
 use Rattle.pricing.specs.declared.contract.Judged.the-variants.{Passed, Failed}
-use Rattle.pricing.proofs.Table.{found-code, found-member, missing-none}
+use Rattle.pricing.proofs.Table.{tells-unlisted, tells-product}
 
 -- ---- the tests, by what a lookup found
 
@@ -62,26 +62,6 @@ finding f p c = cond (testOf f p c) (index.At 0) index.Nothing
 -- ---- what each test tells of the code and the price
 
 module _ (code : Code) (p : ℕ) where
-  tells-missing : (f : Found) → find code ≡ f → Tells (missing f) (Unlisted code)
-  tells-missing (At q) e = record { yes = λ b. not-both b refl; no = λ b h. h q (found-member code e) (found-code code e) }
-  tells-missing Missing e = record { yes = λ b. missing-none code e; no = λ b. not-both refl b }
-
-  -- a statement about the product that was found
-  of-product : {A : Product → Type 0} {q : Product} {b : Bool} → find code ≡ At q → Tells b (A q) → Tells b ((r : Product) × (find code ≡ At r) × A r)
-  of-product {A} {q} e t = tells-as (λ a. (q, e, a)) (λ x. let (r, g, a) = x in let same : r ≡ q = cc in subst A same a) t
-
-  -- is about none where none was found
-  of-none : {A : Product → Type 0} → find code ≡ Missing → Tells false ((r : Product) × (find code ≡ At r) × A r)
-  of-none e = record { yes = λ b. not-both b refl; no = λ b x. let g = x .1 in absurd (let z : _≡_ {A = ℕ} 0 1 = cc in omega arith) }
-
-  tells-off-tick : (f : Found) → find code ≡ f → Tells (offTick f p) ((q : Product) × (find code ≡ At q) × ¬ (q .tick ∣ p))
-  tells-off-tick (At q) e = of-product {A = λ r. ¬ (r .tick ∣ p)} e (tells-not (eqb (p % q .tick) 0) (tells-divides (q .tick) p))
-  tells-off-tick Missing e = of-none {A = λ r. ¬ (r .tick ∣ p)} e
-
-  tells-next-above : (f : Found) → find code ≡ f → Tells (nextAbove f p) ((q : Product) × (find code ≡ At q) × (priceLimit < p + q .tick))
-  tells-next-above (At q) e = of-product {A = λ r. priceLimit < p + r .tick} e (tells-above (p + q .tick) priceLimit)
-  tells-next-above Missing e = of-none {A = λ r. priceLimit < p + r .tick} e
-
   tells-no-bond : (f : Found) → find code ≡ f → Tells (noBond f) ((q : Product) → find code ≡ At q → (face c n : ℕ) → ¬ (q .terms ≡ Bond face c n))
   tells-no-bond Missing e =
       record { yes = λ b q g. absurd (let z : _≡_ {A = ℕ} 0 1 = cc in omega arith); no = λ b. not-both refl b }
@@ -99,11 +79,15 @@ module _ (code : Code) (p : ℕ) where
       by-terms (Bond face c n) d = record { yes = λ b. not-both b refl; no = λ b h. h q e face c n d }
 
   finds : (c : Fault) → Finds (Holds code p c) (finding (find code) p c)
-  finds NoProduct = finds-whole (missing (find code)) (tells-missing (find code) refl)
+  finds NoProduct = finds-whole (missing (find code)) (tells-unlisted code missing (λ q. refl) refl)
   finds NoBond = finds-whole (noBond (find code)) (tells-no-bond (find code) refl)
   finds AboveLimit = finds-whole (not (leb p priceLimit)) (tells-above p priceLimit)
-  finds OffTick = finds-whole (offTick (find code) p) (tells-off-tick (find code) refl)
-  finds NextAboveLimit = finds-whole (nextAbove (find code) p) (tells-next-above (find code) refl)
+  finds OffTick =
+      finds-whole (offTick (find code) p)
+      (tells-product code (λ f. offTick f p) {A = λ q. ¬ (q .tick ∣ p)} (λ q. tells-not (eqb (p % q .tick) 0) (tells-divides (q .tick) p)) refl)
+  finds NextAboveLimit =
+      finds-whole (nextAbove (find code) p)
+      (tells-product code (λ f. nextAbove f p) {A = λ q. priceLimit < p + q .tick} (λ q. tells-above (p + q .tick) priceLimit) refl)
 
 -- ---- the answers go by the decision
 

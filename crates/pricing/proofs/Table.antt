@@ -9,23 +9,25 @@ use borrow.Author.Tests.{eqb-true, eq-eqb}
 use lib.Dec.{eqb}
 use lib.ListN.{length, getD, drop}
 use lib.Seq.{drop-cons}
-use Rattle.numbers.proofs.Truth.{and-left, and-right}
+use Rattle.numbers.proofs.Truth.{Tells, and-left, and-right, not-both, tells-as}
 use Rattle.pricing.specs.Products.{products, noProduct, sameCode, findIn, find}
 use Rattle.pricing.specs.Value.{Modest}
+use Rattle.pricing.specs.Conditions.{Unlisted}
 use Rattle.pricing.specs.declared.products.Code.{Code}
 use Rattle.pricing.specs.declared.products.Product.{Product}
 use Rattle.pricing.specs.declared.products.Found.{Found}
 use Rattle.pricing.specs.declared.products.Found.the-variants.{At, Missing}
 
 -- a search from line i on finds that line where it has the code, and else what a search from the next line on finds
-module _ (qs : List Product) (i : ℕ) (a : Code) (h : i < length qs) where
-  pub find-here : sameCode a (getD qs i noProduct .code) ≡ true → findIn (drop i qs) a ≡ At (getD qs i noProduct)
+module _ (qs : List Product) (i : ℕ) (a : Code) {q : Product} {b : Bool} {f : Found}
+    (h : i < length qs) (is : q ≡ getD qs i noProduct) (test : b ≡ sameCode a (q .code)) (from : findIn (drop i qs) a ≡ f) where
+  pub find-here : b ≡ true → At q ≡ f
   unfolding findIn
-  find-here e = rw (drop-cons qs i noProduct, e)
+  find-here e = rw is (sym (rw (drop-cons qs i noProduct, ← is, ← test, e)) ∙ from)
 
-  pub find-next : sameCode a (getD qs i noProduct .code) ≡ false → findIn (drop i qs) a ≡ findIn (drop (i + 1) qs) a
+  pub find-next : b ≡ false → findIn (drop (i + 1) qs) a ≡ f
   unfolding findIn
-  find-next e = rw (add-one, drop-cons qs i noProduct, e)
+  find-next e = sym (rw (add-one, drop-cons qs i noProduct, ← is, ← test, e)) ∙ from
 
 -- what holds of every line of a table holds of the line that a code names
 abbrev pub Every : (Product → Type 0) → List Product → Type 0
@@ -97,6 +99,25 @@ missing-none a e = in-table products e
         let other = later (sameCode a (r .code)) r (findIn qs a) e .0 in
         absurd (let z : _≡_ {A = ℕ} 0 1 = cc in omega arith)
     in-table (r ∷ qs) e q (List·Memᴰ·tail m) c = in-table qs (later (sameCode a (r .code)) r (findIn qs a) e .1) q m c
+
+-- ---- what a test of what was found tells of the code
+
+module _ (code : Code) (test : Found → Bool) where
+  -- one that holds only where no line was found
+  pub tells-unlisted : ((q : Product) → test (At q) ≡ false) → test Missing ≡ true → Tells (test (find code)) (Unlisted code)
+  tells-unlisted here none = by-found (find code) refl
+    where
+      by-found : (f : Found) → find code ≡ f → Tells (test f) (Unlisted code)
+      by-found (At q) e = record { yes = λ b. not-both b (here q); no = λ b h. h q (found-member code e) (found-code code e) }
+      by-found Missing e = record { yes = λ b. missing-none code e; no = λ b. not-both none b }
+
+  -- one of the product that was found, which holds of none
+  pub tells-product : {A : Product → Type 0} → ((q : Product) → Tells (test (At q)) (A q)) → test Missing ≡ false → Tells (test (find code)) ((q : Product) × (find code ≡ At q) × A q)
+  tells-product {A} here none = by-found (find code) refl
+    where
+      by-found : (f : Found) → find code ≡ f → Tells (test f) ((q : Product) × (find code ≡ At q) × A q)
+      by-found (At q) e = tells-as (λ a. (q, e, a)) (λ x. let (r, g, a) = x in let same : r ≡ q = cc in subst A same a) (here q)
+      by-found Missing e = record { yes = λ b. not-both b none; no = λ b x. let g = x .1 in absurd (let z : _≡_ {A = ℕ} 0 1 = cc in omega arith) }
 
 -- the lines of the product table have modest terms and a tick
 pub record Sound (q : Product) : Type 0 where

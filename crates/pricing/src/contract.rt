@@ -1,7 +1,10 @@
 // The calls on one contract. Each answers for any code and any price.
 ghost use mathlib.Core.Path.{_≡_};
 ghost use Prim.Native.Nat.{_<_};
-ghost use Rattle.pricing.specs.Calls.{said, judged, valueOf, tickValueOf, bracketOf};
+ghost use Rattle.pricing.specs.Ladder.{bracket};
+ghost use Rattle.pricing.specs.Value.{scale, bondDivisor, Modest};
+ghost use Rattle.pricing.specs.Calls.{given, said, judged, after, ofBond, valueOf, tickValueOf, bracketOf};
+ghost use Rattle.pricing.specs.Steps.{checkOf};
 use crate::ladder::bracket_at;
 use crate::products::Code;
 use crate::products::Found;
@@ -36,19 +39,37 @@ fn judge(tick: u32, p: u32) -> Judged
     Judged::Passed
 }
 
-// The value of one contract in cents.
-pub fn value(code: Code, p: u32) -> Priced
-    ensures { λ r. ⌜ said r ≡ valueOf code p ⌝ }
+// The terms and the tick of the product at a price that passes checks 4, 6 and 7, or the number of the first that fails.
+enum Checked {
+    Product { terms: Terms, tick: u32 },
+    Refused(u8),
+}
+
+fn check(code: Code, p: u32) -> Checked
+    ensures { λ r. ⌜ r ≡ checkOf code p ⌝ }
 {
     match lookup(code) {
         Found::At(q) => match judge(q.tick, p) {
             Judged::Passed => {
                 let t = q.terms;
-                Priced::Given(value_at(t, p as u64))
+                Checked::Product {
+                    terms: t,
+                    tick: q.tick,
+                }
             }
-            Judged::Failed(k) => Priced::Refused(k),
+            Judged::Failed(k) => Checked::Refused(k),
         },
-        Found::Missing => Priced::Refused(4),
+        Found::Missing => Checked::Refused(4),
+    }
+}
+
+// The value of one contract in cents.
+pub fn value(code: Code, p: u32) -> Priced
+    ensures { λ r. ⌜ said r ≡ valueOf code p ⌝ }
+{
+    match check(code, p) {
+        Checked::Product { terms, tick: _ } => Priced::Given(value_at(terms, p as u64)),
+        Checked::Refused(k) => Priced::Refused(k),
     }
 }
 
@@ -59,39 +80,48 @@ pub struct TwoPriced(pub Priced, pub Priced);
 pub fn two_values(code: Code, p: u32, q: u32) -> TwoPriced
     ensures { λ r. ⌜ (said (r .0) ≡ valueOf code p) × (said (r .1) ≡ valueOf code q) ⌝ }
 {
-    match lookup(code) {
-        Found::At(x) => match judge(x.tick, p) {
-            Judged::Passed => match judge(x.tick, q) {
-                Judged::Passed => {
-                    let t = x.terms;
-                    let v = values_at(t, p as u64, q as u64);
-                    TwoPriced(Priced::Given(v.0), Priced::Given(v.1))
-                }
-                Judged::Failed(_) => TwoPriced(value(code, p), value(code, q)),
-            },
-            Judged::Failed(_) => TwoPriced(value(code, p), value(code, q)),
-        },
-        Found::Missing => TwoPriced(value(code, p), value(code, q)),
+    if let Checked::Product { terms, tick } = check(code, p) {
+        if let Judged::Passed = judge(tick, q) {
+            let v = values_at(terms, p as u64, q as u64);
+            return TwoPriced(Priced::Given(v.0), Priced::Given(v.1));
+        }
     }
+    TwoPriced(value(code, p), value(code, q))
 }
 
 // The value one tick higher, minus the value.
 pub fn tick_value(code: Code, p: u32) -> Priced
     ensures { λ r. ⌜ said r ≡ tickValueOf code p ⌝ }
 {
-    match lookup(code) {
-        Found::At(q) => match judge(q.tick, p) {
-            Judged::Passed => {
-                let next = p + q.tick;
-                if PRICE_LIMIT < next {
-                    return Priced::Refused(15);
-                }
-                let t = q.terms;
-                Priced::Given(value_at(t, next as u64) - value_at(t, p as u64))
+    match check(code, p) {
+        Checked::Product { terms, tick } => {
+            let next = p + tick;
+            if PRICE_LIMIT < next {
+                return Priced::Refused(15);
             }
+            let v = values_at(terms, next as u64, p as u64);
+            Priced::Given(v.0 - v.1)
+        }
+        Checked::Refused(k) => Priced::Refused(k),
+    }
+}
+
+// A bond's bracket, after checks 6 and 7. Other terms are refused with 4.
+fn bracket_by(t: Terms, tick: u32, p: u32) -> Priced
+    requires { ⌜ Modest t × (0 < tick) ⌝ }
+    ensures { λ r. ⌜ said r ≡ ofBond t (λ c n. after (judged tick p) (given (bracket scale c n (bondDivisor p)))) ⌝ }
+{
+    match t {
+        Terms::Bond {
+            face: _,
+            coupon,
+            halves,
+        } => match judge(tick, p) {
+            Judged::Passed => Priced::Given(bracket_at(coupon, halves, p as u64)),
             Judged::Failed(k) => Priced::Refused(k),
         },
-        Found::Missing => Priced::Refused(4),
+        Terms::Bill { face: _, days: _ } => Priced::Refused(4),
+        Terms::CashRate { cents: _ } => Priced::Refused(4),
     }
 }
 
@@ -102,18 +132,7 @@ pub fn bracket(code: Code, p: u32) -> Priced
     match lookup(code) {
         Found::At(q) => {
             let t = q.terms;
-            match t {
-                Terms::Bond {
-                    face: _,
-                    coupon,
-                    halves,
-                } => match judge(q.tick, p) {
-                    Judged::Passed => Priced::Given(bracket_at(coupon, halves, p as u64)),
-                    Judged::Failed(k) => Priced::Refused(k),
-                },
-                Terms::Bill { face: _, days: _ } => Priced::Refused(4),
-                Terms::CashRate { cents: _ } => Priced::Refused(4),
-            }
+            bracket_by(t, q.tick, p)
         }
         Found::Missing => Priced::Refused(4),
     }

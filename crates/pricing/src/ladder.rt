@@ -1,9 +1,9 @@
 // The bond ladder: discount factors by rounded powers, in units of 10^-8.
 ghost use mathlib.Core.Path.{_≡_};
-ghost use Prim.Native.Nat.{_≤_, _<_};
+ghost use Prim.Native.Nat.{_+_, _*_, _≤_};
 ghost use Rattle.numbers.specs.Rounding.{nearest};
 ghost use Rattle.pricing.specs.Prices.{priceLimit};
-ghost use Rattle.pricing.specs.Ladder.{factor, bracket};
+ghost use Rattle.pricing.specs.Ladder.{firstFactor, bracket};
 ghost use Rattle.pricing.specs.Value.{scale, bondDivisor};
 use crate::products::PAR;
 
@@ -21,20 +21,28 @@ pub(crate) fn descaled(x: u64) -> u64
     (x + SCALE / 2) / SCALE
 }
 
-// 2,000,000 + Y.
-fn divisor(p: u64) -> u64
+// V1: 2,000,000 over (2,000,000 + Y), rounded.
+fn first_factor(p: u64) -> u64
     requires { ⌜ p ≤ priceLimit ⌝ }
-    ensures { λ r. ⌜ r ≡ bondDivisor p ⌝ }
+    ensures { λ r. ⌜ r ≡ firstFactor scale (bondDivisor p) ⌝ }
 {
-    BASE + (PAR - p)
+    numbers::nearest(BASE * SCALE, BASE + (PAR - p))
 }
 
-// The bracket of a bond: c times (V1 + .. + Vn) plus 100 times Vn.
+// c times (V1 + .. + Vn) plus 100 times Vn.
+fn bracket_of(coupon: u64, annuity: u64, last: u64) -> u64
+    requires { ⌜ (coupon ≤ 3) × (annuity ≤ 4000000000) × (last ≤ 100000000) ⌝ }
+    ensures { λ r. ⌜ r ≡ coupon * annuity + 100 * last ⌝ }
+{
+    coupon * annuity + 100 * last
+}
+
+// The bracket of a bond.
 pub(crate) fn bracket_at(coupon: u64, halves: u64, p: u64) -> u64
     requires { ⌜ (coupon ≤ 3) × (1 ≤ halves) × (halves ≤ 40) × (p ≤ priceLimit) ⌝ }
     ensures { λ r. ⌜ r ≡ bracket scale coupon halves (bondDivisor p) ⌝ }
 {
-    let first = numbers::nearest(BASE * SCALE, divisor(p));
+    let first = first_factor(p);
     let mut v = first;
     let mut sum = first;
     let mut k = 1;
@@ -43,7 +51,7 @@ pub(crate) fn bracket_at(coupon: u64, halves: u64, p: u64) -> u64
         sum += v;
         k += 1;
     }
-    coupon * sum + 100 * v
+    bracket_of(coupon, sum, v)
 }
 
 // A number for each of two prices.
@@ -54,8 +62,8 @@ pub(crate) fn brackets_at(coupon: u64, halves: u64, p: u64, q: u64) -> Two
     requires { ⌜ (coupon ≤ 3) × (1 ≤ halves) × (halves ≤ 40) × (p ≤ priceLimit) × (q ≤ priceLimit) ⌝ }
     ensures { λ r. ⌜ (r .0 ≡ bracket scale coupon halves (bondDivisor p)) × (r .1 ≡ bracket scale coupon halves (bondDivisor q)) ⌝ }
 {
-    let first = numbers::nearest(BASE * SCALE, divisor(p));
-    let other = numbers::nearest(BASE * SCALE, divisor(q));
+    let first = first_factor(p);
+    let other = first_factor(q);
     let mut v = first;
     let mut w = other;
     let mut sum = first;
@@ -68,5 +76,5 @@ pub(crate) fn brackets_at(coupon: u64, halves: u64, p: u64, q: u64) -> Two
         total += w;
         rung += 1;
     }
-    Two(coupon * sum + 100 * v, coupon * total + 100 * w)
+    Two(bracket_of(coupon, sum, v), bracket_of(coupon, total, w))
 }

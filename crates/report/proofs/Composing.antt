@@ -16,7 +16,7 @@ pub position-line : (account : ℕ) (m : Mark) (amount : ℤ)
 unfolding positionLine
 position-line account m amount = simp append-assoc
 
-pub refusal-line : (k i : ℕ) → ascii "refused " ++ ended (decimal k) space ++ ascii "at " ++ ended (decimal i) newline ≡ refusalLine k i
+pub refusal-line : (k i : ℕ) → (ascii "refused " ++ ended (decimal k) space) ++ (ascii "at " ++ ended (decimal i) newline) ≡ refusalLine k i
 unfolding refusalLine
 refusal-line k i = simp append-assoc
 

@@ -76,7 +76,7 @@ settled-lines s a {n} {o} {d} e f p =
     (r .room, r .lines ∙ ap positionsText (sym q))
 
 -- the answer and the slice of a settlement carry out the plan
-pub paid : (s : List ℕ) (before now : List ℤ) (r : Settlement) {n : ℕ} → length now ≡ length before → said r ≡ answerOf fileLimits s (length before)
-    → now ≡ amountsAfter fileLimits s before → n ≡ countOf (said r) → Paid (planOf fileLimits s (length now)) n now
+pub paid : (s : List ℕ) (before now : List ℤ) (r : Settlement) → length now ≡ length before → said r ≡ answerOf fileLimits s (length before)
+    → now ≡ amountsAfter fileLimits s before → Paid (planOf fileLimits s (length now)) (countOf (said r)) now
 unfolding answerOf amountsAfter
-paid s before now r e a w c = rw e (record { before = before; written = w; count = c ∙ ap countOf a })
+paid s before now r e a w = rw e (record { before = before; written = w; count = ap countOf a })

@@ -1,9 +1,9 @@
 // The lines of an answer: the totals and the resent count, or the refusal.
 ghost use mathlib.Core.List.{_++_};
-ghost use Rattle.text.specs.Decimal.{signedDecimal};
+ghost use Rattle.text.specs.Decimal.{decimal, signedDecimal};
 ghost use Rattle.text.specs.Writing.{Writes};
 ghost use Rattle.settlement.specs.Settling.{said};
-ghost use Rattle.report.specs.Lines.{newline, ended, resentLine, refusalLine};
+ghost use Rattle.report.specs.Lines.{AUD, NZD, newline, ended, totalLine, refusalLine};
 ghost use Rattle.report.specs.Sheet.{answerText, totalsText};
 use crate::fields::write_cents;
 use crate::fields::write_number;
@@ -20,30 +20,36 @@ fn write_total(words: &[u8], cents: i64, out: &mut [u8]) -> usize
     cents_at + write_cents(cents, b'\n', &mut out[cents_at..])
 }
 
-fn write_resent(k: usize, out: &mut [u8]) -> usize
-    ensures { λ r. ⌜ Writes (resentLine k) r (now (out .entry)) (now (out .exit)) ⌝ }
+// Writes words, a number and the byte behind it.
+fn write_labelled(words: &[u8], n: u64, end: u8, out: &mut [u8]) -> usize
+    ensures { λ r. ⌜ Writes (now (words .entry) ++ ended (decimal n) end) r (now (out .entry)) (now (out .exit)) ⌝ }
 {
-    let count_at = write_text(b"resent ", out);
-    count_at + write_number(k as u64, b'\n', &mut out[count_at..])
+    let number_at = write_text(words, out);
+    number_at + write_number(n, end, &mut out[number_at..])
 }
 
-// Writes the two totals and the resent count.
-fn write_totals(aud: AudCents, nzd: NzdCents, resent: usize, out: &mut [u8]) -> usize
-    ensures { λ r. ⌜ Writes (totalsText (aud .0) (nzd .0) resent) r (now (out .entry)) (now (out .exit)) ⌝ }
+// Writes the two totals.
+fn write_totals(aud: AudCents, nzd: NzdCents, out: &mut [u8]) -> usize
+    ensures { λ r. ⌜ Writes (totalLine AUD (aud .0) ++ totalLine NZD (nzd .0)) r (now (out .entry)) (now (out .exit)) ⌝ }
 {
     let nzd_at = write_total(b"total AUD ", aud.0, out);
-    let resent_at = nzd_at + write_total(b"total NZD ", nzd.0, &mut out[nzd_at..]);
-    resent_at + write_resent(resent, &mut out[resent_at..])
+    nzd_at + write_total(b"total NZD ", nzd.0, &mut out[nzd_at..])
+}
+
+// Writes the totals and the resent count.
+fn write_settlement(aud: AudCents, nzd: NzdCents, resent: usize, out: &mut [u8]) -> usize
+    ensures { λ r. ⌜ Writes (totalsText (aud .0) (nzd .0) resent) r (now (out .entry)) (now (out .exit)) ⌝ }
+{
+    let resent_at = write_totals(aud, nzd, out);
+    resent_at + write_labelled(b"resent ", resent as u64, b'\n', &mut out[resent_at..])
 }
 
 // Writes a refusal: the check's number and the record's index.
 fn write_refusal(number: u32, index: usize, out: &mut [u8]) -> usize
     ensures { λ r. ⌜ Writes (refusalLine number index) r (now (out .entry)) (now (out .exit)) ⌝ }
 {
-    let number_at = write_text(b"refused ", out);
-    let word_at = number_at + write_number(number as u64, b' ', &mut out[number_at..]);
-    let index_at = word_at + write_text(b"at ", &mut out[word_at..]);
-    index_at + write_number(index as u64, b'\n', &mut out[index_at..])
+    let index_at = write_labelled(b"refused ", number as u64, b' ', out);
+    index_at + write_labelled(b"at ", index as u64, b'\n', &mut out[index_at..])
 }
 
 // Writes the lines of an answer.
@@ -56,7 +62,7 @@ pub(crate) fn write_answer(answer: Settlement, out: &mut [u8]) -> usize
             aud,
             nzd,
             resent,
-        } => write_totals(aud, nzd, resent, out),
+        } => write_settlement(aud, nzd, resent, out),
         Settlement::Refused { number, index } => write_refusal(number, index, out),
     }
 }

@@ -1,5 +1,6 @@
 // The whole sheet.
 ghost use mathlib.Core.Path.{_≡_};
+ghost use mathlib.Core.List.{_++_};
 ghost use Prim.Native.Nat.{_≤_};
 ghost use lib.ListN.{length};
 ghost use Rattle.text.specs.Writing.{Wrote, Writes};
@@ -7,7 +8,7 @@ ghost use Rattle.dayfile.specs.Limits.{fileLimits};
 ghost use Rattle.dayfile.specs.Layout.{listsIn};
 ghost use Rattle.settlement.specs.Settling.{said, planOf};
 ghost use Rattle.dayfile.specs.Steps.{LaidOut};
-ghost use Rattle.report.specs.Sheet.{positionsText, sheetWithin, amountsWithin};
+ghost use Rattle.report.specs.Sheet.{answerText, positionsText, sheetWithin, amountsWithin};
 ghost use Rattle.report.specs.Steps.{Paid, countOf, linesIn};
 use crate::answers::write_answer;
 use crate::positions::write_positions;
@@ -73,6 +74,15 @@ fn write_settled(file: &[u8], n: usize, amounts: &[i64], out: &mut [u8]) -> usiz
     }
 }
 
+// Writes the sheet of a file that was settled into these amounts, with this answer.
+fn write_sheet(file: &[u8], answer: Settlement, amounts: &[i64], out: &mut [u8]) -> usize
+    requires { ⌜ Paid (planOf fileLimits (now file) (length (now amounts))) (countOf (said answer)) (now amounts) ⌝ }
+    ensures { λ r. ⌜ Writes (positionsText (planOf fileLimits (now (file .entry)) (length (now (amounts .entry)))) ++ answerText (said answer)) r (now (out .entry)) (now (out .exit)) ⌝ }
+{
+    let n = write_settled(file, count(answer), amounts, out);
+    n + write_answer(answer, &mut out[n..])
+}
+
 // Settles a day file into the lent amounts, writes its sheet at the start of `out`, and answers the sheet's length. With room for less than
 // SHEET_SIZE bytes nothing is written, and the answer is 0.
 pub fn sheet(file: &[u8], amounts: &mut [i64], out: &mut [u8]) -> usize
@@ -83,6 +93,5 @@ pub fn sheet(file: &[u8], amounts: &mut [i64], out: &mut [u8]) -> usize
         return 0;
     }
     let answer = settle(file, amounts);
-    let n = write_settled(file, count(answer), amounts, out);
-    n + write_answer(answer, &mut out[n..])
+    write_sheet(file, answer, amounts, out)
 }

@@ -1,87 +1,71 @@
 -- `tick_value` meets its contract.
+use mathlib.Core.Path.{_≡_, _∙_}
+use Prim.Native.Nat.{ℕ, _+_, _-_, _≤_, _<_}
 use native.Mathlib.Omega.{arith}
+use lib.Dec.{leb}
 use borrow.Author.Tests.{le-leb, lt-leb}
 use Rattle.pricing.specs.Prices.{priceLimit}
-use Rattle.pricing.specs.Calls.{tickValueOf}
-use Rattle.pricing.proofs.Table.{sound}
+use Rattle.pricing.specs.Value.{valueBy}
+use Rattle.pricing.specs.Calls.{Answer, given, refused, check, tickValueOf}
+use Rattle.pricing.specs.declared.products.Terms.{Terms}
 use Rattle.pricing.proofs.Rise.{value-by-rises}
-use Rattle.pricing.proofs.Answers.{passed}
+use Rattle.pricing.proofs.Checking.{allowed, by-checked}
 use borrow.Author.Needs.{needs}
 use Rattle.pricing.proofs.contract.tick_value.Statement.{statement}
 use Rattle.pricing.proofs.contract.tick_value.Tie as tie
 
-lookup-requires : tie.Need-lookup-requires
-lookup-requires c κs = search needs
+-- the answer for the terms and the tick
+abbrev answer : ℕ → Terms → ℕ → Answer
+answer p t tick = check 15 (leb (p + tick) priceLimit) (given (valueBy t (p + tick) - valueBy t p))
 
-enum-known-q : tie.Need-enum-known-q
-enum-known-q c = search needs
+above : (p : ℕ) (t : Terms) (tick : ℕ) → priceLimit < p + tick → refused 15 ≡ answer p t tick
+above p t tick h = rw (lt-leb (p + tick) priceLimit h)
 
-judge-requires : tie.Need-judge-requires
-judge-requires c κs = sound _ (c .before .before .before .lookup .ensures) (c .before .q .given .1) .tick
-
-enum-told : tie.Need-enum-told
-enum-told c = search needs
+within : (p : ℕ) (t : Terms) (tick : ℕ) → p + tick ≤ priceLimit → given (valueBy t (p + tick) - valueBy t p) ≡ answer p t tick
+within p t tick h = rw (le-leb (p + tick) priceLimit h)
 
 add-next : tie.Need-add-next
 unfolding priceLimit
-add-next c = omega (arith, passed _ _ (c .before .before .before .judge .ensures) (c .before .enum-told .given .1) .0, sound _ (c .before .before .before .before .before .before .before .lookup .ensures) (c .before .before .before .before .before .q .given .1))
+add-next c = omega (arith, allowed _ _ (c .before .before .before .check .ensures) (c .before .terms .given .1))
 
 returns : tie.Need-returns
 unfolding tickValueOf priceLimit
 returns c =
-    rw (← c .before .before .before .before .before .before .before .before .lookup .ensures, c .before .before .before .before .before .before .q .given .1, ← c .before .before .before .before .judge .ensures, c .before .before .enum-told .given .1, lt-leb _ _ (c .if1 .taken))
+    let x = c .before .before .terms .given in
+    above (c .before .before .before .before .before .args .p) (x .0 .0) (x .0 .1 .0) (c .if1 .taken) ∙ by-checked _ _ (c .before .before .before .before .check .ensures) (answer _) (x .1)
 
-cast-value-at : tie.Need-cast-value-at
-cast-value-at c = search needs
-
-value-at-requires : tie.Need-value-at-requires
+values-at-requires : tie.Need-values-at-requires
 unfolding priceLimit
-value-at-requires c κs = (sound _ (c .before .before .before .before .before .before .before .before .lookup .ensures) (c .before .before .before .before .before .before .q .given .1) .terms, c .if1 .left)
+values-at-requires c κs =
+    let h = allowed _ _ (c .before .before .before .before .check .ensures) (c .before .before .terms .given .1) in
+    (h .terms, c .if1 .left, h .within)
 
-value-at-requires-2 : tie.Need-value-at-requires-2
-value-at-requires-2 c κs =
-    (sound _ (c .before .before .before .before .before .before .before .before .before .lookup .ensures) (c .before .before .before .before .before .before .before .q .given .1) .terms, passed _ _ (c .before .before .before .before .before .judge .ensures) (c .before .before .before .enum-told .given .1) .0)
-
-sub-t16 : tie.Need-sub-t16
+sub-t11 : tie.Need-sub-t11
 unfolding priceLimit
-sub-t16 c =
-    rw (c .value-at2 .ensures, c .before .value-at .ensures) (value-by-rises _ (omega arith) (c .before .before .if1 .left))
-
-enum-known-k : tie.Need-enum-known-k
-enum-known-k c = search needs
-
-enum-told-2 : tie.Need-enum-told-2
-enum-told-2 c = search needs
+sub-t11 c = rw (c .before .values-at .ensures .0, c .before .values-at .ensures .1) (value-by-rises _ (omega arith) (c .before .before .if1 .left))
 
 returns-2 : tie.Need-returns-2
 unfolding tickValueOf priceLimit
 returns-2 c =
-    rw (← c .before .before .before .before .before .before .before .before .before .before .lookup .ensures, c .before .before .before .before .before .before .before .before .q .given .1, ← c .before .before .before .before .before .before .judge .ensures, c .before .before .before .before .enum-told .given .1, le-leb _ _ (c .before .before .if1 .left), c .value-at2 .ensures, c .before .value-at .ensures)
+    let x = c .before .before .before .before .terms .given in
+    rw (c .before .values-at .ensures .0, c .before .values-at .ensures .1)
+    (within (c .before .before .before .before .before .before .before .args .p) (x .0 .0) (x .0 .1 .0) (c .before .before .if1 .left) ∙ by-checked _ _ (c .before .before .before .before .before .before .check .ensures) (answer _) (x .1))
 
 returns-3 : tie.Need-returns-3
 unfolding tickValueOf
-returns-3 c = rw (← c .before .before .before .before .before .before .before .lookup .ensures, c .before .before .before .before .before .q .given .1, ← c .before .before .before .judge .ensures, c .before .k .given .1)
-
-returns-4 : tie.Need-returns-4
-unfolding tickValueOf
-returns-4 c = rw (← c .before .before .lookup .ensures, c .enum-told2 .given .1)
+returns-3 c = by-checked _ _ (c .before .before .before .check .ensures) (answer _) (c .before .k .given .1)
 
 pub tick-value-spec : {M : Type 1} → statement M
 tick-value-spec =
     tie.close
     (tie.spec
-    lookup-requires
-    enum-known-q
-    judge-requires
-    enum-told
+    (λ c κs. search needs)
+    (λ c. search needs)
     add-next
     returns
-    cast-value-at
-    value-at-requires
-    value-at-requires-2
-    sub-t16
-    enum-known-k
-    enum-told-2
+    (λ c. search needs)
+    values-at-requires
+    sub-t11
+    (λ c. search needs)
     returns-2
-    returns-3
-    returns-4)
+    returns-3)

@@ -1,27 +1,28 @@
 -- `two_values` meets its contract.
-use Rattle.pricing.specs.Calls.{valueOf}
-use Rattle.pricing.proofs.Table.{sound}
+use mathlib.Core.Path.{refl, sym, _∙_}
+use Rattle.pricing.specs.Value.{valueBy}
+use Rattle.pricing.specs.Calls.{given, valueOf}
 use Rattle.pricing.proofs.Answers.{passed}
+use Rattle.pricing.proofs.Checking.{allowed, by-checked, other-price}
 use borrow.Author.Needs.{needs}
 use Rattle.pricing.proofs.contract.two_values.Statement.{statement}
 use Rattle.pricing.proofs.contract.two_values.Tie as tie
 
 judge-requires : tie.Need-judge-requires
-judge-requires c κs = sound _ (c .before .before .before .lookup .ensures) (c .before .x .given .1) .tick
-
-judge-requires-2 : tie.Need-judge-requires-2
-judge-requires-2 c κs = sound _ (c .before .before .before .before .before .before .lookup .ensures) (c .before .before .before .before .x .given .1) .tick
+judge-requires c κs = allowed _ _ (c .before .before .before .check .ensures) (c .before .terms .given .1) .positive
 
 values-at-requires : tie.Need-values-at-requires
 values-at-requires c κs =
-    (sound _ (c .before .before .before .before .before .before .before .before .before .lookup .ensures) (c .before .before .before .before .before .before .before .x .given .1) .terms, passed _ _ (c .before .before .before .before .before .judge .ensures) (c .before .before .before .enum-told .given .1) .0, passed _ _ (c .before .before .judge2 .ensures) (c .enum-told2 .given .1) .0)
+    let h = allowed _ _ (c .before .before .before .before .before .before .check .ensures) (c .before .before .before .before .terms .given .1) in
+    (h .terms, h .within, passed _ _ (c .before .before .judge .ensures) (c .enum-told .given .1) .0)
 
 returns : tie.Need-returns
 unfolding valueOf
 returns c =
-    let found = c .before .before .before .before .before .before .before .before .before .before .lookup .ensures in
-    let at = c .before .before .before .before .before .before .before .before .x .given .1 in
-    (rw (← found, at, ← c .before .before .before .before .before .before .judge .ensures, c .before .before .before .before .enum-told .given .1, c .values-at .ensures .0), rw (← found, at, ← c .before .before .before .judge2 .ensures, c .before .enum-told2 .given .1, c .values-at .ensures .1))
+    let is = c .before .before .before .before .before .before .before .check .ensures in
+    let e = c .before .before .before .before .before .terms .given .1 in
+    let other = other-price _ _ is e _ (sym (c .before .before .before .judge .ensures) ∙ c .before .enum-told .given .1) in
+    (rw (c .values-at .ensures .0) (by-checked _ _ is (λ t tick. given (valueBy t _)) e), rw (c .values-at .ensures .1) (by-checked _ _ refl (λ t tick. given (valueBy t _)) other))
 
 pub two-values-spec : {M : Type 1} → statement M
 two-values-spec =
@@ -31,19 +32,10 @@ two-values-spec =
     (λ c. search needs)
     judge-requires
     (λ c. search needs)
-    judge-requires-2
-    (λ c. search needs)
     values-at-requires
-    (λ c. search needs)
-    (λ c κs. search needs)
-    (λ c κs. search needs)
-    (λ c. search needs)
-    (λ c κs. search needs)
-    (λ c κs. search needs)
-    (λ c. search needs)
-    (λ c κs. search needs)
-    (λ c κs. search needs)
     returns
     (λ c. search needs)
     (λ c. search needs)
+    (λ c κs. search needs)
+    (λ c κs. search needs)
     (λ c. search needs))

@@ -1,6 +1,6 @@
 -- `lookup` meets its contract. The loop's invariant: a search from line i on finds what a search of the whole table finds.
 use Prim.Native.Nat.{ℕ, _≤_, _<_, _-_}
-use mathlib.Core.Path.{_≡_, refl}
+use mathlib.Core.Path.{_≡_, refl, sym, _∙_}
 use borrow.Author.Needs.{needs}
 use native.Mathlib.Omega.{arith}
 use lib.ListN.{drop, length}
@@ -36,7 +36,9 @@ unfolding products
 within h = h
 
 returns : tie.Need-returns Inv-loop μ-loop
-returns c = cc (find-here products (c .before .before .before .before .loop .i) (c .before .before .before .before .before .args .code) (within (search needs)) (cc))
+returns c =
+    let l = c .before .before .before .before .loop in
+    find-here products (l .i) _ (within (c .before .before .before .loop-test .taken)) (c .before .before .line .ensures) (c .before .same-code .ensures) (l .inv .1) (c .if1 .taken)
 
 add-i : tie.Need-add-i Inv-loop μ-loop
 add-i c = omega arith
@@ -45,10 +47,12 @@ loop-less : tie.Need-loop-less Inv-loop μ-loop
 loop-less c = omega arith
 
 loop-again : tie.Need-loop-again Inv-loop μ-loop
-loop-again c = (omega arith, cc (find-next products (c .before .before .before .before .loop .i) (c .before .before .before .before .before .args .code) (within (search needs)) (cc)))
+loop-again c =
+    let l = c .before .before .before .before .loop in
+    (omega arith, find-next products (l .i) _ (within (c .before .before .before .loop-test .taken)) (c .before .before .line .ensures) (c .before .same-code .ensures) (l .inv .1) (c .if1 .left))
 
 returns-2 : tie.Need-returns-2 Inv-loop μ-loop
-returns-2 c = let e : c .before .loop .i ≡ 6 = omega arith in cc (find-end (c .before .before .args .code))
+returns-2 c = let e : c .before .loop .i ≡ 6 = omega arith in sym (find-end (c .before .before .args .code)) ∙ (rw e at (c .before .loop .inv .1))
 
 pub lookup-spec : {M : Type 1} → statement M
 lookup-spec =

@@ -5,7 +5,7 @@ use Rattle.report.proofs.answers.write_answer.Tie as tie
 
 returns : tie.Need-returns
 unfolding answerText
-returns c = rw (c .before .before .before .before .before .answer .given .1) (c .before .before .write-totals .ensures)
+returns c = rw (c .before .before .before .before .before .answer .given .1) (c .before .before .write-settlement .ensures)
 
 returns-2 : tie.Need-returns-2
 unfolding answerText

@@ -9,17 +9,12 @@ use Rattle.report.proofs.answers.write_totals.Tie as tie
 returns : tie.Need-returns
 unfolding totalLine
 returns c =
-    writes-then (writes-then (rw (toZ-ofZ {w = w64} (record { sfits = c .before .before .before .before .before .before .before .before .before .before .before .before .before .struct-told .given .0 .1 })) at (c .before .before .before .before .before .before .before .before .before .before .before .before .write-total .ensures)) (rw (toZ-ofZ {w = w64} (record { sfits = c .before .before .before .before .before .before .before .struct-told2 .given .0 .1 })) at (c .before .before .before .before .before .before .write-total2 .ensures))) (c .before .before .write-resent .ensures)
+    writes-then (rw (toZ-ofZ {w = w64} (record { sfits = c .before .before .before .before .before .before .before .before .before .struct-told .given .0 .1 })) at (c .before .before .before .before .before .before .before .before .write-total .ensures)) (rw (toZ-ofZ {w = w64} (record { sfits = c .before .before .before .struct-told2 .given .0 .1 })) at (c .before .before .write-total2 .ensures))
 
 pub write-totals-spec : {M : Type 1} → statement M
 write-totals-spec =
     tie.close
     (tie.spec
-    (λ c. search needs)
-    (λ c κs. search needs)
-    (λ c. search needs)
-    (λ c. search needs)
-    (λ c. search needs)
     (λ c. search needs)
     (λ c κs. search needs)
     (λ c. search needs)

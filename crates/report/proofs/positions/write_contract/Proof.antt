@@ -4,20 +4,13 @@ use Rattle.report.proofs.positions.write_contract.Statement.{statement}
 use Rattle.report.proofs.positions.write_contract.Tie as tie
 
 returns : tie.Need-returns
-returns c = writes-then (writes-then (c .before .before .before .before .before .before .before .before .before .before .before .before .write-code .ensures) (c .before .before .before .before .before .before .before .write-number .ensures)) (c .before .before .write-number2 .ensures)
+returns c = writes-then (c .before .before .before .before .before .before .write-code .ensures) (c .before .before .write-date .ensures)
 
 pub write-contract-spec : {M : Type 1} → statement M
 write-contract-spec =
     tie.close
     (tie.spec
     (λ c κs. search needs)
-    (λ c. search needs)
-    (λ c. search needs)
-    (λ c. search needs)
-    (λ c. search needs)
-    (λ c κs. search needs)
-    (λ c. search needs)
-    (λ c. search needs)
     (λ c. search needs)
     (λ c. search needs)
     (λ c. search needs)

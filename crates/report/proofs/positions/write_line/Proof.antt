@@ -9,18 +9,13 @@ use Rattle.report.proofs.positions.write_line.Tie as tie
 returns : tie.Need-returns
 returns c =
     writes-as (position-line _ _ _)
-    (writes-then (writes-then (c .before .before .before .before .before .before .before .before .before .before .write-number .ensures) (c .before .before .before .before .before .before .write-contract .ensures)) (rw (toZ-ofZ {w = w64} (c .before .before .before .before .before .before .before .before .before .before .before .before .before .fits .amount)) at (c .before .before .write-money .ensures)))
+    (writes-then (c .before .before .before .before .before .before .write-holding .ensures) (rw (toZ-ofZ {w = w64} (c .before .before .before .before .before .before .before .before .before .fits .amount)) at (c .before .before .write-money .ensures)))
 
 pub write-line-spec : {M : Type 1} → statement M
 write-line-spec =
     tie.close
     (tie.spec
     (λ c κs. search needs)
-    (λ c. search needs)
-    (λ c. search needs)
-    (λ c. search needs)
-    (λ c κs. search needs)
-    (λ c. search needs)
     (λ c. search needs)
     (λ c. search needs)
     (λ c. search needs)

@@ -1,0 +1,66 @@
+-- What checks 4, 6 and 7 leave of a call: terms and a tick of the product table, by which the call's answer goes.
+use mathlib.Core.Path.{_≡_, refl, sym, _∙_}
+use Prim.Native.Nat.{ℕ, _≤_, _<_}
+use native.Mathlib.Omega.{arith}
+use Rattle.pricing.specs.Prices.{priceLimit}
+use Rattle.pricing.specs.Products.{find}
+use Rattle.pricing.specs.Value.{Modest}
+use Rattle.pricing.specs.Calls.{Answer, ofProduct, judged, after}
+use Rattle.pricing.specs.Steps.{judgedProduct, checkIn, checkOf, ofChecked}
+use Rattle.pricing.specs.declared.products.Code.{Code}
+use Rattle.pricing.specs.declared.products.Product as table
+use Rattle.pricing.specs.declared.products.Terms.{Terms}
+use Rattle.pricing.specs.declared.products.Found.{Found}
+use Rattle.pricing.specs.declared.products.Found.the-variants.{At, Missing}
+use Rattle.pricing.specs.declared.contract.Judged.{Judged}
+use Rattle.pricing.specs.declared.contract.Judged.the-variants.{Passed, Failed}
+use Rattle.pricing.specs.declared.contract.Checked.{Checked}
+use Rattle.pricing.specs.declared.contract.Checked.the-variants.{Product}
+use Rattle.pricing.proofs.Table.{sound}
+use Rattle.pricing.proofs.Answers.{passed}
+
+-- terms and a tick of the table, at a price within the limit
+pub record Allowed (t : Terms) (tick p : ℕ) : Type 0 where
+  pub terms : Modest t
+  pub positive : 0 < tick
+  pub low : tick ≤ 100
+  pub within : p ≤ priceLimit
+
+module _ (code : Code) (p : ℕ) {o : Checked} (is : o ≡ checkOf code p) where
+  -- an answer that goes by the product goes by what the checks leave
+  pub by-checked : (a : Terms → ℕ → Answer) {x : Checked} → o ≡ x → ofChecked x a ≡ ofProduct (find code) (λ q. after (judged (q .tick) p) (a (q .terms) (q .tick)))
+  unfolding checkOf
+  by-checked a e = rw (← e, is) (by-found (find code))
+    where
+      by-judged : (q : table.Product) (j : Judged) → ofChecked (judgedProduct q j) a ≡ after j (a (q .terms) (q .tick))
+      by-judged q Passed = refl
+      by-judged q (Failed k) = refl
+
+      by-found : (f : Found) → ofChecked (checkIn f p) a ≡ ofProduct f (λ q. after (judged (q .tick) p) (a (q .terms) (q .tick)))
+      by-found (At q) = by-judged q (judged (q .tick) p)
+      by-found Missing = refl
+
+  module _ {t : Terms} {tick : ℕ} (e : o ≡ Product t tick) where
+    passes-product : (q : table.Product) (j : Judged) → judgedProduct q j ≡ Product t tick → (q .terms ≡ t) × (q .tick ≡ tick) × (j ≡ Passed)
+    passes-product q Passed g = (cc, cc, refl)
+    passes-product q (Failed k) g = absurd (let z : _≡_ {A = ℕ} 0 1 = cc in omega arith)
+
+    -- the product that was found
+    its-product : (q : table.Product) × (find code ≡ At q) × (q .terms ≡ t) × (q .tick ≡ tick) × (judged tick p ≡ Passed)
+    unfolding checkOf
+    its-product = by-found (find code) refl (sym is ∙ e)
+      where
+        by-found : (f : Found) → find code ≡ f → checkIn f p ≡ Product t tick → (q : table.Product) × (find code ≡ At q) × (q .terms ≡ t) × (q .tick ≡ tick) × (judged tick p ≡ Passed)
+        by-found (At q) d g = let (a, b, j) = passes-product q (judged (q .tick) p) g in (q, d, a, b, rw b at j)
+        by-found Missing d g = absurd (let z : _≡_ {A = ℕ} 0 1 = cc in omega arith)
+
+    pub allowed : Allowed t tick p
+    allowed =
+        let (q, d, a, b, j) = its-product in
+        let s = sound code (sym d) refl in
+        record { terms = rw a at (s .terms); positive = rw b at (s .tick); low = rw b at (s .low); within = passed tick p (sym j) refl .0 }
+
+    -- another price of the product passes where checks 6 and 7 do
+    pub other-price : (r : ℕ) → judged tick r ≡ Passed → checkOf code r ≡ Product t tick
+    unfolding checkOf
+    other-price r j = let (q, d, a, b, i) = its-product in rw (d, b, j, a, b)

@@ -1,0 +1,35 @@
+-- `check` meets its contract.
+use Rattle.pricing.specs.Steps.{checkOf}
+use Rattle.pricing.proofs.Table.{sound}
+use borrow.Author.Needs.{needs}
+use Rattle.pricing.proofs.contract.check.Statement.{statement}
+use Rattle.pricing.proofs.contract.check.Tie as tie
+
+judge-requires : tie.Need-judge-requires
+judge-requires c κs = sound _ (c .before .before .before .lookup .ensures) (c .before .q .given .1) .tick
+
+returns : tie.Need-returns
+unfolding checkOf
+returns c = rw (← c .before .before .before .before .before .before .lookup .ensures, c .before .before .before .before .q .given .1, ← c .before .before .judge .ensures, c .enum-told .given .1)
+
+returns-2 : tie.Need-returns-2
+unfolding checkOf
+returns-2 c = rw (← c .before .before .before .before .before .before .before .lookup .ensures, c .before .before .before .before .before .q .given .1, ← c .before .before .before .judge .ensures, c .before .k .given .1)
+
+returns-3 : tie.Need-returns-3
+unfolding checkOf
+returns-3 c = rw (← c .before .before .lookup .ensures, c .enum-told2 .given .1)
+
+pub check-spec : {M : Type 1} → statement M
+check-spec =
+    tie.close
+    (tie.spec
+    (λ c κs. search needs)
+    (λ c. search needs)
+    judge-requires
+    (λ c. search needs)
+    (λ c. search needs)
+    (λ c. search needs)
+    returns
+    returns-2
+    returns-3)

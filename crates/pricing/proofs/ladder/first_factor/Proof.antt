@@ -1,0 +1,19 @@
+-- `first_factor` meets its contract.
+use borrow.Author.Needs.{needs}
+use native.Mathlib.Omega.{arith}
+use Rattle.pricing.specs.Prices.{par, priceLimit, yieldAt}
+use Rattle.pricing.specs.Value.{scale, bondDivisor}
+use Rattle.pricing.proofs.ladder.first_factor.Statement.{statement}
+use Rattle.pricing.proofs.ladder.first_factor.Tie as tie
+
+sub-nearest : tie.Need-sub-nearest
+unfolding priceLimit
+sub-nearest c = omega arith
+
+returns : tie.Need-returns
+unfolding scale bondDivisor yieldAt par
+returns c = c .nearest .ensures
+
+pub first-factor-spec : {M : Type 1} → statement M
+first-factor-spec =
+    tie.close (tie.spec (λ c. search needs) sub-nearest (λ c. search needs) (λ c κs. search needs) returns)

@@ -1,0 +1,31 @@
+-- What the calls on one contract share: checks 4, 6 and 7 by themselves. No caller sees these.
+use Prim.Native.Nat.{ℕ}
+use Rattle.pricing.specs.Products.{find}
+use Rattle.pricing.specs.Calls.{Answer, refused, judged}
+use Rattle.pricing.specs.declared.products.Code.{Code}
+use Rattle.pricing.specs.declared.products.Product.{Product}
+use Rattle.pricing.specs.declared.products.Terms.{Terms}
+use Rattle.pricing.specs.declared.products.Found.{Found}
+use Rattle.pricing.specs.declared.products.Found.the-variants.{At, Missing}
+use Rattle.pricing.specs.declared.contract.Judged.{Judged}
+use Rattle.pricing.specs.declared.contract.Judged.the-variants.{Passed, Failed}
+use Rattle.pricing.specs.declared.contract.Checked.{Checked}
+use Rattle.pricing.specs.declared.contract.Checked.the-variants as checked
+
+-- checks 6 and 7 of a price of the product
+abbrev pub judgedProduct : Product → Judged → Checked
+judgedProduct q Passed = checked.Product (q .terms) (q .tick)
+judgedProduct q (Failed k) = checked.Refused k
+
+-- check 4 before them
+abbrev pub checkIn : Found → ℕ → Checked
+checkIn (At q) p = judgedProduct q (judged (q .tick) p)
+checkIn Missing p = checked.Refused 4
+
+unfoldable pub checkOf : Code → ℕ → Checked
+checkOf code p = checkIn (find code) p
+
+-- the answer for the terms and the tick of the product, where the three pass
+abbrev pub ofChecked : Checked → (Terms → ℕ → Answer) → Answer
+ofChecked (checked.Product t tick) f = f t tick
+ofChecked (checked.Refused k) f = refused k

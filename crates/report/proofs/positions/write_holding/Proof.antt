@@ -1,0 +1,20 @@
+use Rattle.text.proofs.Writing.{writes-then}
+use borrow.Author.Needs.{needs}
+use Rattle.report.proofs.positions.write_holding.Statement.{statement}
+use Rattle.report.proofs.positions.write_holding.Tie as tie
+
+returns : tie.Need-returns
+returns c = writes-then (c .before .before .before .before .before .before .write-number .ensures) (c .before .before .write-contract .ensures)
+
+pub write-holding-spec : {M : Type 1} → statement M
+write-holding-spec =
+    tie.close
+    (tie.spec
+    (λ c κs. search needs)
+    (λ c. search needs)
+    (λ c. search needs)
+    (λ c. search needs)
+    (λ c κs. search needs)
+    (λ c. search needs)
+    (λ c. search needs)
+    returns)
