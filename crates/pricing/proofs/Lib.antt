@@ -2,7 +2,6 @@ pub mod Factors
 pub mod Distance
 pub mod Exact
 pub mod Table
-mod Finding
 pub mod Months
 pub mod Bounds
 pub mod Climbing

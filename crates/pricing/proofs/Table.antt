@@ -2,18 +2,32 @@
 use mathlib.Core.Path.{_≡_, refl, sym, subst, ap₂, _∙_}
 use mathlib.Core.List.{List, [], _∷_, List·Memᴰ, List·Memᴰ·head, List·Memᴰ·tail, List·Memᴰ·not-nil}
 use mathlib.Core.Bool.{Bool, true, false, cond}
-use Prim.Native.Nat.{ℕ, _<_, _≤_}
+use Prim.Native.Nat.{ℕ, _+_, _<_, _≤_}
 use native.Mathlib.Omega.{arith}
+use native.Mathlib.Numerals.{add-one}
 use borrow.Author.Tests.{eqb-true, eq-eqb}
 use lib.Dec.{eqb}
+use lib.ListN.{length, getD, drop}
+use lib.Seq.{drop-cons}
 use Rattle.numbers.proofs.Truth.{Tells, and-left, and-right, not-both, tells-as}
-use Rattle.pricing.specs.Products.{products, sameCode, findIn, find}
+use Rattle.pricing.specs.Products.{products, noProduct, sameCode, findIn, find}
 use Rattle.pricing.specs.Value.{Modest}
 use Rattle.pricing.specs.Conditions.{Unlisted}
 use Rattle.pricing.specs.declared.products.Code.{Code}
 use Rattle.pricing.specs.declared.products.Product.{Product}
 use Rattle.pricing.specs.declared.products.Found.{Found}
 use Rattle.pricing.specs.declared.products.Found.the-variants.{At, Missing}
+
+-- a search from line i on finds that line where it has the code, and else what a search from the next line on finds
+module _ (qs : List Product) (i : ℕ) (a : Code) {q : Product} {b : Bool} {f : Found}
+    (h : i < length qs) (is : q ≡ getD qs i noProduct) (test : b ≡ sameCode a (q .code)) (from : findIn (drop i qs) a ≡ f) where
+  pub find-here : b ≡ true → At q ≡ f
+  unfolding findIn
+  find-here e = rw is (sym (rw (drop-cons qs i noProduct, ← is, ← test, e)) ∙ from)
+
+  pub find-next : b ≡ false → findIn (drop (i + 1) qs) a ≡ f
+  unfolding findIn
+  find-next e = sym (rw (add-one, drop-cons qs i noProduct, ← is, ← test, e)) ∙ from
 
 -- what holds of every line of a table holds of the line that a code names
 abbrev pub Every : (Product → Type 0) → List Product → Type 0
@@ -31,7 +45,7 @@ module _ (P : Product → Type 0) {q : Product} where
   of-found (r ∷ qs) a h e = first (sameCode a (r .code)) (h .0) (of-found qs a (h .1)) e
 
 -- what is found bears the code
-pub same-code : (a b : Code) → sameCode a b ≡ true → a ≡ b
+same-code : (a b : Code) → sameCode a b ≡ true → a ≡ b
 unfolding sameCode
 same-code a b e =
     let f = and-left (eqb (a .0) (b .0)) (eqb (a .1) (b .1)) e in

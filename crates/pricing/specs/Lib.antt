@@ -4,7 +4,6 @@ pub mod Ladder
 pub mod Value
 pub mod Calls
 pub mod Steps
-pub mod Lines
 pub mod Conditions
 pub mod Accuracy
 pub mod Figures

@@ -3,7 +3,6 @@ ghost use mathlib.Core.Path.{_≡_};
 ghost use Prim.Native.Nat.{_<_};
 ghost use lib.ListN.{getD};
 ghost use Rattle.pricing.specs.Products.{products, noProduct, sameCode, find, hasMonth};
-ghost use Rattle.pricing.specs.Lines.{lineFor};
 
 // The price of yield 0, in units of 0.0001.
 pub(crate) const PAR: u64 = 1_000_000;
@@ -124,25 +123,19 @@ fn same_code(a: Code, b: Code) -> bool
     (a.0 == b.0) & (a.1 == b.1)
 }
 
-// The line that may have a code: the sum of the two letters leaves another rest, when divided by 12, for each code of the table.
-const LINES: [u8; 12] = [1, 0, 0, 0, 4, 3, 0, 2, 5, 0, 0, 0];
-
-fn line_for(code: Code) -> usize
-    ensures { λ r. ⌜ (r ≡ lineFor code) × (r < 6) ⌝ }
-{
-    LINES[(code.0 as usize + code.1 as usize) % 12] as usize
-}
-
 // The product that a code names.
 pub fn lookup(code: Code) -> Found
     ensures { λ r. ⌜ r ≡ find code ⌝ }
 {
-    let q = line(line_for(code));
-    if same_code(code, q.code) {
-        Found::At(q)
-    } else {
-        Found::Missing
+    let mut i = 0;
+    while i < 6 {
+        let q = line(i);
+        if same_code(code, q.code) {
+            return Found::At(q);
+        }
+        i += 1;
     }
+    Found::Missing
 }
 
 // Whether a month is one of the product's.
