@@ -5,6 +5,7 @@ use dayfile::Mark;
 use dayfile::Position;
 use dayfile::mark_at;
 use dayfile::mark_count;
+use pricing::rest;
 ghost use mathlib.Core.Path.{_≡_};
 ghost use Rattle.dayfile.specs.Records.{marksIn, markAt};
 ghost use Rattle.checks.specs.Faults.{offTick, badCode, badDate, highMark, offMark, sameContract, noMark, badPrice, clashing, sameNumber, badLots};
@@ -19,7 +20,7 @@ const MOST_LOTS: i64 = 1_000_000;
 fn off_tick(m: Mark, p: u32) -> bool
     ensures { λ r. ⌜ r ≡ offTick m p ⌝ }
 {
-    p % products::tick(m.code) != 0
+    rest(p, products::tick(m.code)) != 0
 }
 
 // 4: the code is not in the product table.
