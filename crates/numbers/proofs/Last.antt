@@ -57,6 +57,11 @@ last-within t u h (suc n) = go (u n) refl (t n) refl (last-within t u h n)
     go false p false q e = rw (last-miss u n p, last-miss t n q) e
     go false p true q e = not-both (h n q) p
 
+-- there is none where nothing passes
+pub last-clear : (t : ℕ → Bool) (n : ℕ) → ((k : ℕ) → k < n → t k ≡ false) → last t n ≡ 0
+last-clear t zero h = last-none t
+last-clear t (suc n) h = last-miss t n (h n (omega arith)) ∙ last-clear t n (λ k l. h k (omega arith))
+
 -- nothing passes after the last one
 pub last-after : (t : ℕ → Bool) (n x : ℕ) → last t n ≤ x → x < n → t x ≡ false
 last-after t zero x le h = absurd (not-suc-le-zero h)
