@@ -11,12 +11,14 @@ use native.Mathlib.Decide.{decLt}
 use lib.Dec.{eqb}
 use lib.ListN.{length, getD, set, replicate, getD-replicate, length-replicate, List·getD-eq-default}
 use lib.Seq.{getD-set-same, getD-set-other}
-use borrow.Author.Tests.{eqb-true, eqb-false, eq-eqb, ne-eqb}
+use borrow.Author.Tests.{eqb-true, eqb-false, ne-eqb}
 use Rattle.numbers.specs.Folds.{last}
 use Rattle.numbers.specs.Trees.{Keys, childOf, nodeOf, Ends, Walk, WalkOf, Grown, sameKey, Known, Tree}
 use Rattle.numbers.specs.Trees.Ends.{empty, same}
 use Rattle.numbers.specs.Trees.Walk.{here, on}
 use Rattle.numbers.proofs.Last.{last-miss, last-here, last-clear}
+
+-- ---- lists
 
 -- an entry of a list after a store
 after-set : {A : Type 0} (P : A → Type 0) (l : List A) (i j : ℕ) (v d : A) → i < length l → (j ≡ i → P v) → (j ≢ i → P (getD l j d)) → P (getD (set l i v) j d)
@@ -33,10 +35,11 @@ getD-zeros n i = go (decLt i n)
     go (yes h) = getD-replicate n i 0 0 h
     go (no h) = List·getD-eq-default (replicate n 0) 0 {n = i} (simp length-replicate (omega arith))
 
-module _ {t : Keys} {places : List ℕ} where
-  -- ---- one walk
+-- ---- one walk
 
-  pub walk-end : {x e r a : ℕ} → Walk t places x e r a → Ends t places x e
+module _ {t : Keys} {places : List ℕ} where
+  -- where it ends
+  walk-end : {x e r a : ℕ} → Walk t places x e r a → Ends t places x e
   walk-end (here s) = s
   walk-end (on p q w) = walk-end w
 
@@ -45,11 +48,12 @@ module _ {t : Keys} {places : List ℕ} where
   passed p q (empty z) = absurd (omega (arith, sym p ∙ z))
   passed {x} {a} {k} p q (same {k = m} z s) = absurd (q (let e : k ≡ m = omega (arith, sym p ∙ z) in rw e s))
 
-  pub determined : {x e f r a : ℕ} → Walk t places x e r a → Walk t places x f r a → e ≡ f
+  -- two walks from one place end at one place
+  determined : {x e f r a : ℕ} → Walk t places x e r a → Walk t places x f r a → e ≡ f
   determined (here s) (here z) = refl
   determined (here s) (on p q w) = passed p q s
   determined (on p q w) (here z) = passed p q z
-  determined {r = r} (on {k = k} p q w) (on {k = m} p′ q′ w′) =
+  determined (on {k = k} p q w) (on {k = m} p′ q′ w′) =
       let e : m ≡ k = omega (arith, sym p ∙ p′) in
       determined w (rw e at w′)
 
@@ -72,6 +76,9 @@ module _ {t : Keys} {places : List ℕ} {x r a : ℕ} where
   leads-on p q l = record { onward = λ w. l .onward (on p q w) }
 
 -- ---- one index more
+
+pub node-held : (k n : ℕ) {j : ℕ} → k ≡ suc j → j ≡ nodeOf k n
+node-held k n e = rw e
 
 -- the index j at the end of the walk of n
 record Node (t : Keys) (n : ℕ) (places : List ℕ) (e j : ℕ) : Type 0 where
