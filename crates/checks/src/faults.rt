@@ -8,7 +8,7 @@ use dayfile::mark_count;
 use pricing::rest;
 ghost use mathlib.Core.Path.{_≡_};
 ghost use Rattle.dayfile.specs.Records.{marksIn, markAt};
-ghost use Rattle.checks.specs.Faults.{offTick, badCode, badDate, highMark, offMark, sameContract, noMark, badPrice, clashing, sameNumber, badLots};
+ghost use Rattle.checks.specs.Faults.{offTick, badCode, badDate, highMark, offMark, noMark, badPrice, clashing, badLots};
 
 const YEAR_LIMIT: u8 = 99;
 
@@ -51,13 +51,6 @@ pub(crate) fn off_mark(m: Mark) -> bool
     off_tick(m, m.previous) | off_tick(m, m.today)
 }
 
-// 8: two marks agree in code, month and year.
-pub(crate) fn same_contract(m: Mark, n: Mark) -> bool
-    ensures { λ r. ⌜ r ≡ sameContract m n ⌝ }
-{
-    (m.code.0 == n.code.0) & (m.code.1 == n.code.1) & (m.month == n.month) & (m.year == n.year)
-}
-
 // 9 and 12: there is no mark with this index.
 pub(crate) fn no_mark(marks: &[u8], k: usize) -> bool
     ensures { λ r. ⌜ r ≡ noMark (marksIn (now (marks .entry))) k ⌝ }
@@ -70,13 +63,6 @@ fn bad_price(m: Mark, c: Correction) -> bool
     ensures { λ r. ⌜ r ≡ badPrice m c ⌝ }
 {
     products::above_limit(c.price) | off_tick(m, c.price)
-}
-
-// Whether two corrections bear one number.
-pub(crate) fn same_number(b: Correction, c: Correction) -> bool
-    ensures { λ r. ⌜ r ≡ sameNumber b c ⌝ }
-{
-    b.number == c.number
 }
 
 // 11: two corrections agree in number but differ in mark or price.
