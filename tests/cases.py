@@ -10,26 +10,14 @@ import sys
 from pathlib import Path
 
 import settlement
-from calculator import DIGEST_PRIME, require
-from days import GROUPS
-
-PLACES = 4_100  # the amounts slice where a case names no other length: more than any file can have positions
-
-
-def digest(amounts):
-    """One number for a list of amounts: for each, a 1 where it is negative, else a 0, and then the amount without its sign."""
-    h = 0
-    for amount in amounts:
-        h = (h * 131 + (amount < 0)) % DIGEST_PRIME
-        h = (h * 131 + abs(amount)) % DIGEST_PRIME
-    return h
+from digest import digest
+from require import require
+from stored import cases
 
 
-def cases():
-    """Name, file and places of each case, in the order in which they are printed."""
-    for group in GROUPS.values():
-        for name, file, *places in group:
-            yield name, file, places[0] if places else PLACES
+def digest_of(amounts):
+    """The digest of a list of amounts: of each, a 1 where it is negative, else a 0, and then the amount without its sign."""
+    return digest(number for amount in amounts for number in (amount < 0, abs(amount)))
 
 
 def line(name, file, places):
@@ -37,10 +25,10 @@ def line(name, file, places):
     answer = settlement.settle(file, places)
     if isinstance(answer, settlement.Refused):
         return f"{name}: {answer}\n"
-    return f"{name}: {answer.positions} {answer.aud} {answer.nzd} {answer.resent} {digest(answer.amounts)}\n"
+    return f"{name}: {answer.positions} {answer.aud} {answer.nzd} {answer.resent} {digest_of(answer.amounts)}\n"
 
 
-def stored():
+def expected():
     """The text of stdout, and the files by their names. Every check number is met by some file."""
     files = {name: file for name, file, _ in cases()}
     require(len(files) == len(list(cases())), "every name stands once")
@@ -51,7 +39,7 @@ def stored():
 
 
 def write(directory):
-    text, files = stored()
+    text, files = expected()
     data = directory / "data"
     data.mkdir(parents=True, exist_ok=True)
     for old in data.iterdir():
@@ -62,7 +50,7 @@ def write(directory):
 
 
 def check(directory):
-    text, files = stored()
+    text, files = expected()
     there = {path.name: path.read_bytes() for path in (directory / "data").iterdir()}
     for name in sorted(files.keys() | there.keys()):
         require(files.get(name) == there.get(name), "the stored file", name)

@@ -11,9 +11,10 @@ sys.path.insert(0, str(ROOT / "tools"))
 
 import dayfile
 import settlement
-from calculator import require
-from days import GROUPS, PAPER
+from days import PAPER
 from records import file_of
+from require import require
+from stored import cases
 
 SHEET_OF_THE_PAPER = """\
 11 IR 3 18 24060 AUD
@@ -25,7 +26,7 @@ resent 1
 
 
 def stored_files():
-    return [(name, file) for group in GROUPS.values() for name, file, *_ in group]
+    return [(name, file) for name, file, _ in cases()]
 
 
 def check_round_trips():

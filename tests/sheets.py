@@ -15,19 +15,19 @@ ROOT = Path(__file__).resolve().parent.parent
 sys.path.insert(0, str(ROOT / "tools"))
 
 import dayfile
-from calculator import require
-from days import GROUPS, random_day
+from random_days import random_day
 from records import MAX_CORRECTIONS, MAX_MARKS, MAX_POSITIONS, file_of
+from require import require
 from settlement import INPUT_LIMIT, sheet
+from stored import cases
 
 SIZES = [(1, 0, 1), (3, 5, 9), (20, 40, 60), (MAX_MARKS, 0, 700), (7, MAX_CORRECTIONS, 200), (100, 100, MAX_POSITIONS)]
 
 
 def inputs():
     """A name and the bytes of each input."""
-    for group in GROUPS.values():
-        for name, file, *_ in group:
-            yield name, file
+    for name, file, _ in cases():
+        yield name, file
     for seed, sizes in enumerate(SIZES, 1):
         yield f"a random day of {sizes}", file_of(random_day(seed * 7_919, *sizes))
     full = file_of(random_day(65_539, MAX_MARKS, MAX_CORRECTIONS, MAX_POSITIONS))

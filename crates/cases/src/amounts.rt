@@ -1,29 +1,22 @@
 // What a settlement left in the slice of amounts.
+use printing::digest_with;
 use text::magnitude;
 
 // What every place holds before a settlement. No position has this amount.
 pub const UNTOUCHED: i64 = -7_777_777_777_777_777_777;
 
-// The largest prime below 2^56.
-const PRIME: u64 = 72_057_594_037_927_931;
-
-// The digest h with the number n after it. The inner remainders keep the sum within 64 bits for any h and n.
-fn mix(h: u64, n: u64) -> u64 {
-    (h % PRIME * 131 + n % PRIME) % PRIME
-}
-
 // The digest h with an amount after it: whether it is negative, and then the amount without its sign.
-fn mix_amount(h: u64, amount: i64) -> u64 {
+fn with_amount(h: u64, amount: i64) -> u64 {
     let sign = if amount < 0 { 1 } else { 0 };
-    mix(mix(h, sign), magnitude(amount))
+    digest_with(digest_with(h, sign), magnitude(amount))
 }
 
-// One number for the first n amounts. Another amount in any one place makes another number.
+// The digest of the first n amounts.
 pub(crate) fn digest(amounts: &[i64], n: usize) -> u64 {
     let mut h = 0;
     let mut i = 0;
     while i < n && i < amounts.len() {
-        h = mix_amount(h, amounts[i]);
+        h = with_amount(h, amounts[i]);
         i += 1;
     }
     h

@@ -1,14 +1,13 @@
 // Settles the stored day files of data/, and prints the answer to each under the name of its file.
 // tests/cases.py wrote the files and works out the same text by itself.
 mod amounts;
-mod lines;
 
 use amounts::UNTOUCHED;
 use amounts::digest;
 use amounts::untouched;
-use lines::field;
-use lines::signed_field;
-use lines::text;
+use printing::field;
+use printing::signed_field;
+use printing::text;
 use settlement::Settlement;
 
 // More places than a file can have positions.

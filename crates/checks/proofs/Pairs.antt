@@ -1,46 +1,43 @@
--- Records that make a pair have the same key, and so the same bucket.
-use mathlib.Core.Path.{_≡_, refl, ap}
-use mathlib.Core.Bool.{Bool, true, false, not, _&&_, _||_}
-use mathlib.Core.List.{List}
-use Prim.Native.Nat.{ℕ}
+-- Records make a pair exactly where they have the same key.
+use mathlib.Core.Path.{_≡_, refl, sym}
+use mathlib.Core.List.{List, []}
+use Prim.Native.Nat.{ℕ, _*_, _/_, _<_}
+use native.Mathlib.Decide.{decLt}
 use native.Mathlib.Omega.{arith}
 use lib.Dec.{eqb}
-use borrow.Author.Tests.{eqb-true}
-use Rattle.dayfile.specs.Records.{marksIn, correctionsIn, markAt, correctionAt}
-use Rattle.checks.specs.Faults.{sameContract, clashing, sameNumber}
-use Rattle.checks.specs.Checks.{pairing}
-use Rattle.checks.specs.Earlier.{scattered, contractKey, keyOf, bucketOf}
-use Rattle.dayfile.specs.declared.records.Mark.{Mark}
-use Rattle.dayfile.specs.declared.records.Correction.{Correction}
-use Rattle.checks.specs.declared.order.Pair.{Pair}
-use Rattle.checks.specs.declared.order.Pair.the-variants.{Contract, Clash, Number}
+use lib.ListN.{length}
+use Rattle.numbers.specs.Bytes.{Bytes, part}
+use Rattle.numbers.specs.Folds.{last}
+use Rattle.numbers.specs.Trees.{sameKey}
+use Rattle.dayfile.specs.Records.{markSize, markOf, marksIn, markAt}
+use Rattle.checks.specs.Earlier.{pairing, keyOf, keysOf, earlierOf}
+use Rattle.checks.specs.declared.earlier.Pair.{Pair}
+use Rattle.checks.specs.declared.earlier.Pair.the-variants.{Contract, Number}
+use Rattle.numbers.proofs.Bytes.{part-bytes, joined-same}
+use Rattle.numbers.proofs.Last.{last-same}
+use Rattle.numbers.proofs.Sections.{record-here, record-past}
 
-both : (a b : Bool) → (a && b) ≡ true → (a ≡ true) × (b ≡ true)
-both true true e = (refl, refl)
-both true false e = absurd (let z : _≡_ {A = ℕ} 0 1 = cc in omega arith)
-both false b e = absurd (let z : _≡_ {A = ℕ} 0 1 = cc in omega arith)
+-- a mark of a section comes from bytes
+record OfBytes (s : List ℕ) (i : ℕ) : Type 0 where
+  pub from : List ℕ
+  pub bytes : Bytes from
+  pub is : markAt (marksIn s) i ≡ markOf from
 
-contracts-agree : (m n : Mark) → sameContract m n ≡ true → contractKey n ≡ contractKey m
-contracts-agree m n e =
-    let first = eqb (m .code .0) (n .code .0) in
-    let second = eqb (m .code .1) (n .code .1) in
-    let month = eqb (m .month) (n .month) in
-    let (abc, y) = both (first && second && month) (eqb (m .year) (n .year)) e in
-    let (ab, c) = both (first && second) month abc in
-    let (a, b) = both first second ab in
-    rw (eqb-true (m .code .0) (n .code .0) a, eqb-true (m .code .1) (n .code .1) b, eqb-true (m .month) (n .month) c, eqb-true (m .year) (n .year) y)
+mark-bytes : (s : List ℕ) → Bytes s → (i : ℕ) → OfBytes s i
+unfolding markAt
+mark-bytes s b i = go (decLt i (length s / markSize))
+  where
+    go : Dec (i < length s / markSize) → OfBytes s i
+    go (yes h) = record { from = part (markSize * i) markSize s; bytes = part-bytes (markSize * i) markSize s b; is = record-here markOf markSize s i h }
+    go (no h) = record { from = []; bytes = λ k. omega arith; is = record-past markOf markSize s i (omega arith) }
 
-numbers-agree : (b c : Correction) → sameNumber b c ≡ true → c .number ≡ b .number
-numbers-agree b c e = rw (eqb-true (b .number) (c .number) e)
+pairs-keyed : (s : List ℕ) → Bytes s → (p : Pair) (i k : ℕ) → pairing s p i k ≡ eqb (keyOf s p i) (keyOf s p k)
+pairs-keyed s b Contract i k =
+    let m = mark-bytes s b i in
+    let n = mark-bytes s b k in
+    rw (m .is, n .is) (joined-same _ _ (m .bytes 0) (m .bytes 1) (m .bytes 2) (n .bytes 0) (n .bytes 1) (n .bytes 2))
+pairs-keyed s b Number i k = refl
 
-clash-number : (b c : Correction) → clashing b c ≡ true → sameNumber b c ≡ true
-clash-number b c e = both (sameNumber b c) (not (eqb (b .mark) (c .mark)) || not (eqb (b .price) (c .price))) e .0
-
-keys-agree : (s : List ℕ) (p : Pair) (i k : ℕ) → pairing s p i k ≡ true → keyOf s p k ≡ keyOf s p i
-keys-agree s Contract i k e = contracts-agree (markAt (marksIn s) i) (markAt (marksIn s) k) e
-keys-agree s Clash i k e =
-    numbers-agree (correctionAt (correctionsIn s) i) (correctionAt (correctionsIn s) k) (clash-number (correctionAt (correctionsIn s) i) (correctionAt (correctionsIn s) k) e)
-keys-agree s Number i k e = numbers-agree (correctionAt (correctionsIn s) i) (correctionAt (correctionsIn s) k) e
-
-pub pairs-agree : (s : List ℕ) (p : Pair) (i k : ℕ) → pairing s p i k ≡ true → bucketOf s p k ≡ bucketOf s p i
-pairs-agree s p i k e = ap scattered (keys-agree s p i k e)
+-- so that the last one with the same key is the one that is looked for
+pub earlier-keyed : (s : List ℕ) → Bytes s → (p : Pair) (i : ℕ) → last (sameKey (keysOf s p) i) i ≡ earlierOf s p i
+earlier-keyed s b p i = sym (last-same (pairing s p i) (sameKey (keysOf s p) i) (pairs-keyed s b p i) i)

@@ -9,9 +9,9 @@ use lib.ListN.{length, getD}
 use Rattle.numbers.specs.Folds.{last, Holds}
 use Rattle.dayfile.specs.Records.{Lists, marksIn, correctionsIn, listsOf}
 use Rattle.checks.specs.Checks.{contractPair, clashPair, repeating}
-use Rattle.checks.specs.Earlier.{longest, earlierOf, clashesBelow, Numbered, Told, Reached}
+use Rattle.checks.specs.Earlier.{longest, earlierOf, clashesBelow, Told, Reached}
 use Rattle.dayfile.specs.Steps.{Small}
-use Rattle.checks.specs.declared.order.Pair.the-variants.{Contract, Number}
+use Rattle.checks.specs.declared.earlier.Pair.the-variants.{Contract, Number}
 use Rattle.checks.specs.declared.order.Check.the-variants.{MarkRepeated, CorrectionClash}
 use Rattle.numbers.proofs.Last.{some-last}
 use Rattle.checks.proofs.Clashes.{clash-last}

@@ -4,7 +4,7 @@ use mathlib.Core.Bool.{Bool}
 use mathlib.Core.List.{List, [], _∷_, foldl}
 use lib.ListN.{length}
 use Rattle.numbers.specs.Folds.{first, some}
-use Rattle.dayfile.specs.Records.{Lists, marksIn, correctionsIn, markAt, correctionAt, positionAt}
+use Rattle.dayfile.specs.Records.{Lists, markAt, correctionAt, positionAt}
 use Rattle.checks.specs.Faults.{badCode, badDate, highMark, offMark, sameContract, noMark, badPrice, clashing, sameNumber, badLots}
 use Rattle.dayfile.specs.declared.records.Mark.{Mark}
 use Rattle.dayfile.specs.declared.records.Correction.{Correction}
@@ -13,8 +13,6 @@ use Rattle.numbers.specs.declared.Found.{Found}
 use Rattle.numbers.specs.declared.Found.the-variants.{At, Nothing}
 use Rattle.checks.specs.declared.order.Check.{Check}
 use Rattle.checks.specs.declared.order.Check.the-variants.{Code, Date, PriceLimit, Tick, MarkRepeated, CorrectionMark, CorrectionPrice, CorrectionClash, PositionMark, Lots}
-use Rattle.checks.specs.declared.order.Pair.{Pair}
-use Rattle.checks.specs.declared.order.Pair.the-variants.{Contract, Clash, Number}
 use Rattle.checks.specs.declared.order.Verdict.{Verdict}
 use Rattle.checks.specs.declared.order.Verdict.the-variants.{Passed, Failed}
 
@@ -27,12 +25,6 @@ clashPair cs i k = clashing (correctionAt cs i) (correctionAt cs k)
 
 abbrev pub numberPair : List Correction → ℕ → ℕ → Bool
 numberPair cs i k = sameNumber (correctionAt cs i) (correctionAt cs k)
-
--- the pairs of a section, from its bytes
-abbrev pub pairing : List ℕ → Pair → ℕ → ℕ → Bool
-pairing s Contract = contractPair (marksIn s)
-pairing s Clash = clashPair (correctionsIn s)
-pairing s Number = numberPair (correctionsIn s)
 
 -- record i makes a pair with an earlier one
 abbrev pub repeating : (ℕ → ℕ → Bool) → ℕ → Bool

@@ -1,30 +1,31 @@
--- How the code finds the last earlier record that makes a pair with a record: among those of its bucket. No statement about a file rests on
--- this: records that make a pair have the same key, and two keys may share a bucket.
+-- How the code finds the last earlier record that makes a pair with a record: by a key, in a tree. No statement about a file rests on this.
 use mathlib.Core.Path.{_≡_}
 use Prim.Native.Nat.{ℕ, zero, suc, _*_, _/_, _%_, _≤_, _<_}
 use mathlib.Core.Bool.{Bool, false}
 use mathlib.Core.List.{List}
 use lib.ListN.{length}
 use Rattle.numbers.specs.Folds.{first, last, Holds}
+use Rattle.numbers.specs.Trees.{Keys}
 use Rattle.numbers.specs.Bytes.{joined}
 use Rattle.dayfile.specs.Limits.{fileLimits}
 use Rattle.dayfile.specs.Records.{Lists, marksIn, correctionsIn, markAt, correctionAt}
-use Rattle.checks.specs.Checks.{contractPair, clashPair, numberPair, pairing, ruleOf}
+use Rattle.checks.specs.Checks.{contractPair, clashPair, numberPair, ruleOf}
 use Rattle.dayfile.specs.Steps.{Small}
 use Rattle.dayfile.specs.declared.records.Mark.{Mark}
 use Rattle.dayfile.specs.declared.records.Correction.{Correction}
 use Rattle.checks.specs.declared.order.Check.{Check}
 use Rattle.numbers.specs.declared.Found.the-variants.{Nothing}
-use Rattle.checks.specs.declared.order.Pair.{Pair}
-use Rattle.checks.specs.declared.order.Pair.the-variants.{Contract, Clash, Number}
+use Rattle.checks.specs.declared.earlier.Pair.{Pair}
+use Rattle.checks.specs.declared.earlier.Pair.the-variants.{Contract, Number}
 
 -- the most records of a section in which pairs are looked for
 abbrev pub longest : ℕ
 longest = fileLimits .corrections
 
--- one of 4,096 buckets for a key: the twelve highest of the 32 low bits of a product
-unfoldable pub scattered : ℕ → ℕ
-scattered key = key * 2_654_435_761 / 1_048_576 % 4_096
+-- the pairs of a section, from its bytes: two marks of one contract, two corrections with one number
+abbrev pub pairing : List ℕ → Pair → ℕ → ℕ → Bool
+pairing s Contract = contractPair (marksIn s)
+pairing s Number = numberPair (correctionsIn s)
 
 abbrev pub contractKey : Mark → ℕ
 contractKey m = joined (m .code .0) (m .code .1) (m .month) (m .year)
@@ -32,11 +33,18 @@ contractKey m = joined (m .code .0) (m .code .1) (m .month) (m .year)
 -- what records share that make a pair
 abbrev pub keyOf : List ℕ → Pair → ℕ → ℕ
 keyOf s Contract i = contractKey (markAt (marksIn s) i)
-keyOf s Clash i = correctionAt (correctionsIn s) i .number
 keyOf s Number i = correctionAt (correctionsIn s) i .number
 
-abbrev pub bucketOf : List ℕ → Pair → ℕ → ℕ
-bucketOf s p i = scattered (keyOf s p i)
+-- the 32 low bits of a product
+unfoldable pub scattered : ℕ → ℕ
+scattered key = key * 2_654_435_761 % 4_294_967_296
+
+abbrev pub roots : ℕ
+roots = 4_096
+
+-- the tree's keys, and where their walks start: the twelve highest bits choose a root
+abbrev pub keysOf : List ℕ → Pair → Keys
+keysOf s p = record { key = keyOf s p; roots = roots; root = λ x. scattered x / 1_048_576; rest = scattered }
 
 -- one more than the index of the last earlier record that makes a pair with record i, or 0
 abbrev pub earlierOf : List ℕ → Pair → ℕ → ℕ

@@ -5,9 +5,10 @@ use dayfile::Mark;
 use dayfile::Position;
 use dayfile::mark_at;
 use dayfile::mark_count;
+use pricing::rest;
 ghost use mathlib.Core.Path.{_≡_};
 ghost use Rattle.dayfile.specs.Records.{marksIn, markAt};
-ghost use Rattle.checks.specs.Faults.{offTick, badCode, badDate, highMark, offMark, sameContract, noMark, badPrice, clashing, sameNumber, badLots};
+ghost use Rattle.checks.specs.Faults.{offTick, badCode, badDate, highMark, offMark, noMark, badPrice, clashing, badLots};
 
 const YEAR_LIMIT: u8 = 99;
 
@@ -19,7 +20,7 @@ const MOST_LOTS: i64 = 1_000_000;
 fn off_tick(m: Mark, p: u32) -> bool
     ensures { λ r. ⌜ r ≡ offTick m p ⌝ }
 {
-    p % products::tick(m.code) != 0
+    rest(p, products::tick(m.code)) != 0
 }
 
 // 4: the code is not in the product table.
@@ -50,13 +51,6 @@ pub(crate) fn off_mark(m: Mark) -> bool
     off_tick(m, m.previous) | off_tick(m, m.today)
 }
 
-// 8: two marks agree in code, month and year.
-pub(crate) fn same_contract(m: Mark, n: Mark) -> bool
-    ensures { λ r. ⌜ r ≡ sameContract m n ⌝ }
-{
-    (m.code.0 == n.code.0) & (m.code.1 == n.code.1) & (m.month == n.month) & (m.year == n.year)
-}
-
 // 9 and 12: there is no mark with this index.
 pub(crate) fn no_mark(marks: &[u8], k: usize) -> bool
     ensures { λ r. ⌜ r ≡ noMark (marksIn (now (marks .entry))) k ⌝ }
@@ -69,13 +63,6 @@ fn bad_price(m: Mark, c: Correction) -> bool
     ensures { λ r. ⌜ r ≡ badPrice m c ⌝ }
 {
     products::above_limit(c.price) | off_tick(m, c.price)
-}
-
-// Whether two corrections bear one number.
-pub(crate) fn same_number(b: Correction, c: Correction) -> bool
-    ensures { λ r. ⌜ r ≡ sameNumber b c ⌝ }
-{
-    b.number == c.number
 }
 
 // 11: two corrections agree in number but differ in mark or price.

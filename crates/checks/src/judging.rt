@@ -1,6 +1,6 @@
 // What the checks say of a whole day file.
+use crate::earlier::Pair;
 use crate::earlier::earlier;
-use crate::order::Pair;
 use crate::order::Verdict;
 use crate::order::checked;
 use crate::order::is_some;

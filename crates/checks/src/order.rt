@@ -8,8 +8,6 @@ use crate::faults::correction_off;
 use crate::faults::high_mark;
 use crate::faults::no_mark;
 use crate::faults::off_mark;
-use crate::faults::same_contract;
-use crate::faults::same_number;
 use dayfile::DayFile;
 use dayfile::correction_at;
 use dayfile::correction_count;
@@ -23,7 +21,7 @@ ghost use mathlib.Core.Bool.{not};
 ghost use lib.Dec.{eqb};
 ghost use mathlib.Core.List.{foldl};
 ghost use Rattle.dayfile.specs.Records.{correctionsIn, listsOf};
-ghost use Rattle.checks.specs.Checks.{pairing, ruleOf, findingOf, numberOf, thenCheck, verdictOf};
+ghost use Rattle.checks.specs.Checks.{ruleOf, findingOf, numberOf, thenCheck, verdictOf};
 ghost use Rattle.checks.specs.Earlier.{clashesBelow, Told, Reached};
 ghost use Rattle.checks.specs.Steps.{markOrder, correctionOrder};
 
@@ -41,27 +39,6 @@ pub enum Check {
     Lots,
 }
 
-// What a record may share with an earlier one of its section.
-pub enum Pair {
-    // two marks of one contract
-    Contract,
-    // two corrections with one number that differ in mark or price
-    Clash,
-    // two corrections with one number
-    Number,
-}
-
-// Whether records i and k of a section are such a pair.
-pub(crate) fn paired(section: &[u8], p: Pair, i: usize, k: usize) -> bool
-    ensures { λ r. ⌜ r ≡ pairing (now (section .entry)) p i k ⌝ }
-{
-    match p {
-        Pair::Contract => same_contract(mark_at(section, i), mark_at(section, k)),
-        Pair::Clash => clash(correction_at(section, i), correction_at(section, k)),
-        Pair::Number => same_number(correction_at(section, i), correction_at(section, k)),
-    }
-}
-
 // Whether there is an earlier record, one more than whose index is k.
 pub(crate) fn is_some(k: u16) -> bool
     ensures { λ r. ⌜ r ≡ not (eqb k 0) ⌝ }
@@ -77,7 +54,10 @@ fn clashes_below(corrections: &[u8], i: usize, k: usize) -> bool
     if k == 0 {
         return false;
     }
-    paired(corrections, Pair::Clash, i, k - 1)
+    clash(
+        correction_at(corrections, i),
+        correction_at(corrections, k - 1),
+    )
 }
 
 // Whether the record with index i fails a check.

@@ -5,7 +5,6 @@ use pricing::PRICE_LIMIT;
 use pricing::has_month;
 use pricing::lookup;
 ghost use mathlib.Core.Path.{_≡_};
-ghost use Prim.Native.Nat.{_<_};
 ghost use Rattle.checks.specs.Products.{aboveLimit, listed, quoted, tickOf};
 
 // Whether a price is above the highest one.
@@ -37,7 +36,7 @@ pub(crate) fn is_quoted(code: Code, month: u8) -> bool
 
 // A product's tick, 1 where there is no product.
 pub(crate) fn tick(code: Code) -> u32
-    ensures { λ r. ⌜ (r ≡ tickOf code) × (0 < r) ⌝ }
+    ensures { λ r. ⌜ r ≡ tickOf code ⌝ }
 {
     match lookup(code) {
         Found::At(q) => q.tick,

@@ -1,12 +1,12 @@
 -- The file of three lists of records: its header, its length and its sections.
 use mathlib.Core.Path.{_≡_, refl, sym, ap}
 use mathlib.Core.List.{List, _++_, append-assoc}
-use Prim.Native.Nat.{ℕ, _+_, _*_, _/_, _%_, _<_}
+use Prim.Native.Nat.{ℕ, _*_}
 use native.Mathlib.Omega.{arith}
 use lib.ListN.{length, length-append}
-use lib.Seq.{take-at, drop-at, take-all}
-use Rattle.numbers.specs.Bytes.{Bytes, u32At, part, u32Bytes}
-use Rattle.numbers.proofs.Bytes.{append-bytes, u32-bytes}
+use Rattle.numbers.specs.Bytes.{Bytes, u32At, u32Bytes}
+use Rattle.numbers.proofs.Bytes.{append-bytes, u32-bytes, from-bytes}
+use Rattle.numbers.proofs.Sections.{length-part, part-at, part-end}
 use Rattle.dayfile.specs.Records.{markSize, correctionSize, positionSize}
 use Rattle.dayfile.specs.Limits.{fileLimits}
 use Rattle.dayfile.specs.Layout.{headerSize, countsOf, correctionsStart, positionsStart, lengthOf, openedOf, markBytes, correctionBytes, positionBytes}
@@ -14,7 +14,7 @@ use Rattle.dayfile.specs.Steps.{Limited}
 use Rattle.dayfile.specs.Making.{countsIn, entryBytes, headerOf, madeOf}
 use Rattle.dayfile.specs.declared.file.DayFile.{DayFile}
 use Rattle.dayfile.specs.declared.file.Opened.the-variants.{File}
-use Rattle.dayfile.proofs.Parts.{length-part, marks-sized, corrections-sized, positions-sized}
+use Rattle.dayfile.proofs.Parts.{marks-sized, corrections-sized, positions-sized}
 use Rattle.dayfile.proofs.Opening.{laid-out}
 
 -- three lists of whole records within the file's limits, with their counts
@@ -24,18 +24,6 @@ pub record Whole (ms cs ps : List ℕ) (d : DayFile) : Type 0 where
   pub marks : length ms ≡ markSize * d .marks
   pub corrections : length cs ≡ correctionSize * d .corrections
   pub positions : length ps ≡ positionSize * d .positions
-
--- a number from its four bytes
-join : (n : ℕ) → n < 4294967296 → n % 256 + 256 * (n / 256 % 256) + 65536 * (n / 256 / 256 % 256) + 16777216 * (n / 256 / 256 / 256 % 256) ≡ n
-join n h = omega arith
-
--- ---- parts of a list
-
-part-at : (a b c : List ℕ) (f n : ℕ) → length a ≡ f → length b ≡ n → part f n (a ++ b ++ c) ≡ b
-part-at a b c f n h k = rw (append-assoc a b c, drop-at a (b ++ c) f h) (take-at b c n k)
-
-part-end : (a b : List ℕ) (f n : ℕ) → length a ≡ f → length b ≡ n → part f n (a ++ b) ≡ b
-part-end a b f n h k = rw (drop-at a b f h) (take-all n b (omega arith))
 
 -- ---- a made file
 
@@ -61,7 +49,7 @@ module _ (ms cs ps : List ℕ) (d : DayFile) (w : Whole ms cs ps d) where
   unfolding countsOf u32At headerOf entryBytes u32Bytes
   made-counts =
       let l = w .limited in
-      rw made-is (counts-by d (join (d .marks) (omega arith)) (join (d .corrections) (omega arith)) (join (d .positions) (omega arith)))
+      rw made-is (counts-by d (from-bytes (d .marks) (omega arith)) (from-bytes (d .corrections) (omega arith)) (from-bytes (d .positions) (omega arith)))
 
   pub made-length : length made ≡ lengthOf d
   made-length =
@@ -73,11 +61,11 @@ module _ (ms cs ps : List ℕ) (d : DayFile) (w : Whole ms cs ps d) where
 
   pub made-corrections-at : u32At made 12 ≡ correctionsStart d
   unfolding u32At headerOf entryBytes u32Bytes
-  made-corrections-at = let l = w .limited in rw made-is (join (correctionsStart d) (omega arith))
+  made-corrections-at = let l = w .limited in rw made-is (from-bytes (correctionsStart d) (omega arith))
 
   pub made-positions-at : u32At made 20 ≡ positionsStart d
   unfolding u32At headerOf entryBytes u32Bytes
-  made-positions-at = let l = w .limited in rw made-is (join (positionsStart d) (omega arith))
+  made-positions-at = let l = w .limited in rw made-is (from-bytes (positionsStart d) (omega arith))
 
   pub made-marks : markBytes made d ≡ ms
   made-marks = rw (made-is, append-assoc (headerOf d ++ ms) cs ps) (part-at (headerOf d) ms (cs ++ ps) headerSize (markSize * d .marks) (length-header d) (w .marks))

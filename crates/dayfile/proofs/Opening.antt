@@ -12,7 +12,6 @@ use Rattle.dayfile.specs.Limits.{Limits, fileLimits}
 use Rattle.dayfile.specs.Layout.{countsOf, headerSize, correctionsStart, positionsStart, lengthOf, withinLimits, asLaidOut, openedOf}
 use Rattle.dayfile.specs.Steps.{LaidOut}
 use Rattle.dayfile.specs.declared.file.DayFile.{DayFile}
-use Rattle.dayfile.specs.declared.file.Opened.{Opened}
 use Rattle.dayfile.specs.declared.file.Opened.the-variants.{File, Refused}
 use Rattle.numbers.proofs.Truth.{and-left, and-right}
 

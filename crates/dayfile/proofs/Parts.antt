@@ -3,17 +3,13 @@ use mathlib.Core.Path.{_≡_, _∙_}
 use mathlib.Core.List.{List, map}
 use Prim.Native.Nat.{ℕ, _+_, _-_, _*_, _/_, _≤_}
 use native.Mathlib.Omega.{arith}
-use lib.ListN.{length, length-drop}
-use lib.Seq.{length-take-le}
+use lib.ListN.{length}
 use Rattle.numbers.specs.Bytes.{part, recordsOf}
 use Rattle.dayfile.specs.Records.{markSize, correctionSize, positionSize, markOf, correctionOf, positionOf, listsOf}
 use Rattle.dayfile.specs.Layout.{lengthOf, headerSize, correctionsStart, positionsStart, listsIn}
 use Rattle.dayfile.specs.Steps.{LaidOut, Small}
 use Rattle.dayfile.specs.declared.file.DayFile.{DayFile}
-use Rattle.numbers.proofs.Sections.{size-is}
-
-pub length-part : (a n : ℕ) (s : List ℕ) → a + n ≤ length s → length (part a n s) ≡ n
-length-part a n s h = length-take-le n _ (rw (length-drop a s) (omega arith))
+use Rattle.numbers.proofs.Sections.{size-is, length-part}
 
 -- how many records stand in a part of a file
 sized : {R : Type 0} (f : List ℕ → R) (w a k n : ℕ) (s : List ℕ) → a + k ≤ length s → k / w ≡ n → length (map f (recordsOf w (part a k s))) ≡ n

@@ -1,12 +1,16 @@
 -- Lists of bytes: what is cut out of them and put together from them.
-use mathlib.Core.Path.{refl}
+use mathlib.Core.Path.{_≡_, refl}
+use mathlib.Core.Bool.{Bool, true, false, _&&_}
 use mathlib.Core.List.{List, [], _∷_, _++_, List·Memᴰ, List·Memᴰ·head, List·Memᴰ·tail, List·Memᴰ·not-nil}
-use Prim.Native.Nat.{ℕ, zero, suc, _+_, _<_}
+use Prim.Native.Nat.{ℕ, zero, suc, _+_, _*_, _/_, _%_, _<_}
 use native.Mathlib.Decide.{decLt}
 use native.Mathlib.Omega.{arith}
+use lib.Dec.{eqb}
 use lib.ListN.{getD, drop, length-take, List·getD-eq-default}
 use lib.Seq.{getD-take, getD-drop}
-use Rattle.numbers.specs.Bytes.{Bytes, u32At, u32Bytes, part, records, bytesOf}
+use borrow.Author.Tests.{eqb-true, eqb-false}
+use Rattle.numbers.specs.Bytes.{Bytes, joined, u32At, u32Bytes, part, records, bytesOf}
+use Rattle.numbers.proofs.Truth.{Tells, tells-and, tells-eq, told, denied}
 
 pub part-bytes : (a n : ℕ) (s : List ℕ) → Bytes s → Bytes (part a n s)
 part-bytes a n s b i = go (decLt i n)
@@ -18,6 +22,22 @@ part-bytes a n s b i = go (decLt i n)
 pub u32-small : (r : List ℕ) (i : ℕ) → Bytes r → u32At r i < 4294967296
 unfolding u32At
 u32-small r i b = omega (arith, b i, b (i + 1), b (i + 2), b (i + 3))
+
+-- four bytes are joined to one number exactly where they are the same
+pub joined-same : {a b c a′ b′ c′ : ℕ} (d d′ : ℕ) → a < 256 → b < 256 → c < 256 → a′ < 256 → b′ < 256 → c′ < 256
+    → (eqb a a′ && eqb b b′ && eqb c c′ && eqb d d′) ≡ eqb (joined a b c d) (joined a′ b′ c′ d′)
+joined-same {a} {b} {c} {a′} {b′} {c′} d d′ h i j h′ i′ j′ = go (eqb (joined a b c d) (joined a′ b′ c′ d′)) refl
+  where
+    each : Tells (eqb a a′ && eqb b b′ && eqb c c′ && eqb d d′) ((((a ≡ a′) × (b ≡ b′)) × (c ≡ c′)) × (d ≡ d′))
+    each =
+        tells-and (eqb a a′ && eqb b b′ && eqb c c′) (eqb d d′)
+        (tells-and (eqb a a′ && eqb b b′) (eqb c c′) (tells-and (eqb a a′) (eqb b b′) (tells-eq a a′) (tells-eq b b′)) (tells-eq c c′)) (tells-eq d d′)
+
+    go : (t : Bool) → eqb (joined a b c d) (joined a′ b′ c′ d′) ≡ t → (eqb a a′ && eqb b b′ && eqb c c′ && eqb d d′) ≡ t
+    go true e =
+        let q : joined a b c d ≡ joined a′ b′ c′ d′ = eqb-true (joined a b c d) (joined a′ b′ c′ d′) e in
+        told (eqb a a′ && eqb b b′ && eqb c c′ && eqb d d′) each (((omega arith, omega arith), omega arith), omega arith)
+    go false e = denied (eqb a a′ && eqb b b′ && eqb c c′ && eqb d d′) each (λ p. eqb-false (joined a b c d) (joined a′ b′ c′ d′) e (rw (p .0 .0 .0, p .0 .0 .1, p .0 .1, p .1)))
 
 pub append-bytes : (s t : List ℕ) → Bytes s → Bytes t → Bytes (s ++ t)
 append-bytes [] t h k i = k i
@@ -41,3 +61,7 @@ record-bytes w (suc n) s b r (List·Memᴰ·tail m) = record-bytes w n (drop w s
 pub all-bytes : (rs : List (List ℕ)) → ((r : List ℕ) → List·Memᴰ r rs → Bytes r) → Bytes (bytesOf rs)
 all-bytes [] h = λ i. omega arith
 all-bytes (r ∷ rs) h = append-bytes r (bytesOf rs) (h r (List·Memᴰ·head refl)) (all-bytes rs (λ q m. h q (List·Memᴰ·tail m)))
+
+-- a number from its four bytes
+pub from-bytes : (n : ℕ) → n < 4294967296 → n % 256 + 256 * (n / 256 % 256) + 65536 * (n / 256 / 256 % 256) + 16777216 * (n / 256 / 256 / 256 % 256) ≡ n
+from-bytes n h = omega arith

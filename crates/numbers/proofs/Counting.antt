@@ -1,7 +1,7 @@
 -- How many of n numbers are different, and how many repeat an earlier one: together they are n.
 use mathlib.Core.Path.{_≡_, refl}
 use mathlib.Core.Bool.{Bool, true, false, cond, or-false}
-use Prim.Native.Nat.{ℕ, zero, suc, _+_, _<_}
+use Prim.Native.Nat.{ℕ, zero, suc, _+_, _≤_, _<_}
 use native.Mathlib.Nat.{not-suc-le-zero}
 use native.Mathlib.Omega.{arith}
 use lib.Dec.{eqb}
@@ -76,3 +76,11 @@ module _ (number : ℕ → ℕ) where
       positive : (n : ℕ) → 0 < ceiling n
       positive zero = omega arith
       positive (suc n) = let p = positive n in omega arith
+
+pub count-small : (t : ℕ → Bool) (n : ℕ) → count t n ≤ n
+count-small t zero = omega arith
+count-small t (suc n) = omega (arith, count-small t n, one (t n))
+  where
+    one : (b : Bool) → cond b 1 0 ≤ 1
+    one true = omega arith
+    one false = omega arith

@@ -3,7 +3,7 @@ use mathlib.Core.Path.{_≡_, refl, sym, _∙_}
 use mathlib.Core.Bool.{Bool, true, false}
 use mathlib.Core.List.{List}
 use mathlib.Core.Logic.{⊎-elim}
-use Prim.Native.Nat.{ℕ, _+_, _<_, _≤_}
+use Prim.Native.Nat.{ℕ, _+_, _<_}
 use native.Mathlib.Nat.{not-suc-le-zero, eq-or-lt-of-le, le-of-suc-le-suc}
 use native.Mathlib.Numerals.{add-one}
 use native.Mathlib.Omega.{arith}
@@ -20,9 +20,6 @@ module _ {A : Type 0} {d : A} where
   -- one value in every place
   pub holds-all : {f : ℕ → A} (n : ℕ) (v : A) → ((i : ℕ) → v ≡ f i) → Holds d f n (replicate n v)
   holds-all n v e = record { entry = λ i h. getD-replicate n i v d h ∙ e i }
-
-  pub holds-less : {f : ℕ → A} {m n : ℕ} {r : List A} → m ≤ n → Holds d f n r → Holds d f m r
-  holds-less le a = record { entry = λ i h. a .entry i (omega arith) }
 
   -- one store more
   pub holds-more : {f : ℕ → A} {n : ℕ} {v : A} {r : List A} → n < length r → v ≡ f n → Holds d f n r → Holds d f (n + 1) (set r n v)

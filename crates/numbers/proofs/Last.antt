@@ -8,9 +8,8 @@ use native.Mathlib.Omega.{arith}
 use lib.Dec.{eqb}
 use borrow.Author.Tests.{ne-eqb}
 use Rattle.numbers.specs.Folds.{some, last}
-use Rattle.numbers.proofs.Truth.{not-both}
 
-pub last-none : (t : ℕ → Bool) → last t 0 ≡ 0
+last-none : (t : ℕ → Bool) → last t 0 ≡ 0
 unfolding last
 last-none t = refl
 
@@ -47,15 +46,16 @@ last-again t (suc n) = go (t n) refl (last-again t n)
     go true p h = rw (last-here t n p) (last-here t n p)
     go false p h = rw (last-miss t n p) h
 
--- a search may leave out what a wider test leaves out
-pub last-within : (t u : ℕ → Bool) → ((k : ℕ) → t k ≡ true → u k ≡ true) → (n : ℕ) → last t n ≡ last t (last u n)
-last-within t u h zero = rw (last-none u)
-last-within t u h (suc n) = go (u n) refl (t n) refl (last-within t u h n)
-  where
-    go : (b : Bool) → u n ≡ b → (a : Bool) → t n ≡ a → last t n ≡ last t (last u n) → last t (suc n) ≡ last t (last u (suc n))
-    go true p a q e = rw (last-here u n p)
-    go false p false q e = rw (last-miss u n p, last-miss t n q) e
-    go false p true q e = not-both (h n q) p
+-- two tests that agree
+pub last-same : (t u : ℕ → Bool) → ((k : ℕ) → t k ≡ u k) → (n : ℕ) → last t n ≡ last u n
+unfolding last
+last-same t u h zero = refl
+last-same t u h (suc n) = rw (h n, last-same t u h n)
+
+-- there is none where nothing passes
+pub last-clear : (t : ℕ → Bool) (n : ℕ) → ((k : ℕ) → k < n → t k ≡ false) → last t n ≡ 0
+last-clear t zero h = last-none t
+last-clear t (suc n) h = last-miss t n (h n (omega arith)) ∙ last-clear t n (λ k l. h k (omega arith))
 
 -- nothing passes after the last one
 pub last-after : (t : ℕ → Bool) (n x : ℕ) → last t n ≤ x → x < n → t x ≡ false

@@ -3,7 +3,7 @@ pub mod Chain
 pub mod Searches
 pub mod Last
 pub mod Held
-pub mod Buckets
+pub mod Trees
 pub mod Counting
 pub mod Order
 pub mod Tables

@@ -1,11 +1,11 @@
--- A section's records by index: what a reader of a record needs.
+-- A section's records by index, and parts of a list.
 use mathlib.Core.Path.{_≡_, refl, ap, _∙_}
-use mathlib.Core.List.{List, [], map}
+use mathlib.Core.List.{List, [], _++_, map, append-assoc}
 use Prim.Native.Nat.{ℕ, zero, suc, _+_, _*_, _/_, _≤_, _<_}
 use native.Mathlib.Nat.{mul-zero, not-suc-le-zero, le-of-suc-le-suc}
 use native.Mathlib.Omega.{arith}
-use lib.ListN.{length, getD, take, drop}
-use lib.Seq.{drop-drop}
+use lib.ListN.{length, getD, take, drop, length-drop}
+use lib.Seq.{drop-drop, take-at, drop-at, take-all, length-take-le}
 use Rattle.numbers.specs.Bytes.{part, records, recordsOf}
 
 module _ {R : Type 0} (f : List ℕ → R) (w : ℕ) where
@@ -38,3 +38,14 @@ module _ {R : Type 0} (f : List ℕ → R) (w : ℕ) where
   pub record-past : (s : List ℕ) (j : ℕ) → length s / w ≤ j → getD (map f (recordsOf w s)) j (f []) ≡ f []
   unfolding recordsOf
   record-past s j h = outside (length s / w) s j h
+
+-- ---- parts of a list
+
+pub length-part : (a n : ℕ) (s : List ℕ) → a + n ≤ length s → length (part a n s) ≡ n
+length-part a n s h = length-take-le n _ (rw (length-drop a s) (omega arith))
+
+pub part-at : (a b c : List ℕ) (f n : ℕ) → length a ≡ f → length b ≡ n → part f n (a ++ b ++ c) ≡ b
+part-at a b c f n h k = rw (append-assoc a b c, drop-at a (b ++ c) f h) (take-at b c n k)
+
+pub part-end : (a b : List ℕ) (f n : ℕ) → length a ≡ f → length b ≡ n → part f n (a ++ b) ≡ b
+part-end a b f n h k = rw (drop-at a b f h) (take-all n b (omega arith))

@@ -8,7 +8,7 @@ use native.Mathlib.Omega.{arith}
 use lib.Dec.{leb, ltb, eqb}
 use lib.IntN.{ℤ}
 use lib.Signed.{ltZ, _<ℤ_}
-use borrow.Author.Tests.{ltb-true, ltb-false, leb-true, leb-false, eqb-true, eqb-false, not-true, not-false}
+use borrow.Author.Tests.{ltb-true, ltb-false, leb-true, leb-false, eqb-true, eqb-false, eq-eqb, ne-eqb, not-true, not-false}
 use Rattle.numbers.specs.Folds.{some}
 
 -- b is true exactly where A holds
@@ -99,3 +99,11 @@ tells-some {P} t (suc n) h =
     (⊎-elim (λ x. (x .0, omega (arith, x .1), x .2)) (λ p. (n, omega arith, p)))
     (λ x. ⊎-elim (λ (e : x .0 ≡ n). inr (rw e at (x .2))) (λ (l : x .0 < n). inl (x .0, l, x .2)) (eq-or-lt-of-le (le-of-suc-le-suc (x .1))))
     (tells-or (some t n) (t n) (tells-some t n h) (h n))
+
+-- a test for equal numbers goes both ways
+pub eqb-comm : (m n : ℕ) → eqb m n ≡ eqb n m
+eqb-comm m n = go (eqb m n) refl
+  where
+    go : (b : Bool) → eqb m n ≡ b → eqb m n ≡ eqb n m
+    go true e = e ∙ sym (eq-eqb n m (sym (eqb-true m n e)))
+    go false e = e ∙ sym (ne-eqb n m (λ q. eqb-false m n e (sym q)))

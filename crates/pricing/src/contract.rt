@@ -11,6 +11,7 @@ use crate::products::Found;
 use crate::products::PRICE_LIMIT;
 use crate::products::Terms;
 use crate::products::lookup;
+use crate::products::rest;
 use crate::values::value_at;
 use crate::values::values_at;
 
@@ -27,13 +28,12 @@ enum Judged {
 }
 
 fn judge(tick: u32, p: u32) -> Judged
-    requires { ⌜ 0 < tick ⌝ }
     ensures { λ r. ⌜ r ≡ judged tick p ⌝ }
 {
     if PRICE_LIMIT < p {
         return Judged::Failed(6);
     }
-    if p % tick != 0 {
+    if rest(p, tick) != 0 {
         return Judged::Failed(7);
     }
     Judged::Passed

@@ -19,3 +19,4 @@ pub use products::Product;
 pub use products::Terms;
 pub use products::has_month;
 pub use products::lookup;
+pub use products::rest;

@@ -1,6 +1,6 @@
 // The product table, and the product that a code names.
 ghost use mathlib.Core.Path.{_≡_};
-ghost use Prim.Native.Nat.{_<_};
+ghost use Prim.Native.Nat.{_%_, _<_};
 ghost use lib.ListN.{getD};
 ghost use Rattle.pricing.specs.Products.{products, noProduct, sameCode, find, hasMonth};
 
@@ -136,6 +136,23 @@ pub fn lookup(code: Code) -> Found
         i += 1;
     }
     Found::Missing
+}
+
+// What a price leaves when divided by a tick, all of it where the tick is 0. Dividing by the table's ticks as constants is several times
+// faster than by a number that the compiler does not know.
+pub fn rest(p: u32, tick: u32) -> u32
+    ensures { λ r. ⌜ r ≡ p % tick ⌝ }
+{
+    if tick == 50 {
+        return p % 50;
+    }
+    if tick == 100 {
+        return p % 100;
+    }
+    if tick == 0 {
+        return p;
+    }
+    p % tick
 }
 
 // Whether a month is one of the product's.

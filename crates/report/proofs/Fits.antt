@@ -2,7 +2,7 @@
 use mathlib.Core.Path.{_≡_, refl, sym, ap}
 use mathlib.Core.Bool.{Bool, true, false, cond}
 use mathlib.Core.List.{List, _++_}
-use Prim.Native.Nat.{ℕ, zero, suc, _*_, _^_, _≤_, _<_}
+use Prim.Native.Nat.{ℕ, _*_, _^_, _≤_, _<_}
 use native.Mathlib.Nat.{le-trans}
 use native.Mathlib.Omega.{arith}
 use lib.Dec.{ltb}
@@ -11,7 +11,7 @@ use lib.ListN.{length, length-append}
 use Rattle.text.proofs.Writing.{texts-length}
 use Rattle.pricing.specs.declared.products.Currency.{Currency}
 use Rattle.pricing.specs.declared.products.Currency.the-variants.{Aud, Nzd}
-use Rattle.numbers.specs.Folds.{count}
+use Rattle.numbers.proofs.Counting.{count-small}
 use Rattle.dayfile.specs.Limits.{fileLimits}
 use Rattle.dayfile.specs.Records.{Lists, positionAt, markSize, positionSize}
 use Rattle.checks.specs.Checks.{numberPair, repeating, ruleOf, numberOf, verdictOf}
@@ -44,14 +44,6 @@ use Rattle.report.proofs.Lengths.{mark-read, position-read, line-length
 use Rattle.report.specs.Sheet.{answerText, positionsText, sheetOf, lineSize, sheetSize}
 
 -- ---- a file that is accepted
-
-count-small : (t : ℕ → Bool) (n : ℕ) → count t n ≤ n
-count-small t zero = omega arith
-count-small t (suc n) = omega (arith, count-small t n, one (t n))
-  where
-    one : (b : Bool) → cond b 1 0 ≤ 1
-    one true = omega arith
-    one false = omega arith
 
 resent-small : (cs : List Correction) → resentOf cs ≤ length cs
 resent-small cs = count-small (repeating (numberPair cs)) (length cs)

@@ -2,11 +2,11 @@
 use mathlib.Core.Path.{_≡_}
 use Prim.Native.Nat.{ℕ}
 use mathlib.Core.List.{List, [], _∷_, _++_}
-use lib.IntN.{ℤ, pos}
-use lib.ListN.{getD}
+use lib.IntN.{ℤ}
 use Rattle.text.specs.Decimal.{decimal, signedDecimal}
 use Rattle.text.specs.Writing.{texts}
 use Rattle.settlement.specs.Products.{currencyOf}
+use Rattle.numbers.specs.Integers.{entryOf}
 use Rattle.dayfile.specs.Records.{Lists}
 use Rattle.settlement.specs.Settling.{Answer, settled, refused, Plan, paidBy, answerBy}
 use Rattle.dayfile.specs.declared.records.Mark.{Mark}
@@ -20,10 +20,6 @@ contractFields m = (m .code .0 ∷ m .code .1 ∷ space ∷ []) ++ ended (decima
 abbrev pub moneyFields : Mark → ℤ → List ℕ
 moneyFields m amount = ended (signedDecimal amount) space ++ ended (lettersOf (currencyOf (m .code))) newline
 
--- the amount in a place of a slice
-abbrev pub placeOf : List ℤ → ℕ → ℤ
-placeOf a i = getD a i (pos 0)
-
 -- how many positions an answer has settled
 abbrev pub countOf : Answer → ℕ
 countOf (settled n aud nzd k) = n
@@ -31,7 +27,7 @@ countOf (refused k i) = 0
 
 -- the lines of the first n positions, with the amounts of a slice
 abbrev pub linesIn : Lists → List ℤ → ℕ → List ℕ
-linesIn l a n = texts (lineAt (l .marks) (l .positions) (placeOf a)) n
+linesIn l a n = texts (lineAt (l .marks) (l .positions) (entryOf a)) n
 
 -- a slice of amounts after a plan was carried out, with its count of positions
 pub record Paid (plan : Plan) (n : ℕ) (a : List ℤ) : Type 0 where

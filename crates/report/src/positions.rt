@@ -5,8 +5,9 @@ ghost use lib.ListN.{length};
 ghost use Rattle.text.specs.Decimal.{decimal};
 ghost use Rattle.text.specs.Writing.{Writes, texts};
 ghost use Rattle.dayfile.specs.Records.{marksIn, positionsIn};
+ghost use Rattle.numbers.specs.Integers.{entryOf};
 ghost use Rattle.report.specs.Lines.{space, ended, positionLine, lineAt};
-ghost use Rattle.report.specs.Steps.{contractFields, moneyFields, placeOf};
+ghost use Rattle.report.specs.Steps.{contractFields, moneyFields};
 use crate::fields::write_cents;
 use crate::fields::write_code;
 use crate::fields::write_currency;
@@ -64,7 +65,7 @@ fn write_position(
     out: &mut [u8],
 ) -> usize
     requires { ⌜ i < length (now amounts) ⌝ }
-    ensures { λ r. ⌜ Writes (lineAt (marksIn (now (marks .entry))) (positionsIn (now (positions .entry))) (placeOf (now (amounts .entry))) i) r (now (out .entry)) (now (out .exit)) ⌝ }
+    ensures { λ r. ⌜ Writes (lineAt (marksIn (now (marks .entry))) (positionsIn (now (positions .entry))) (entryOf (now (amounts .entry))) i) r (now (out .entry)) (now (out .exit)) ⌝ }
 {
     let p = position_at(positions, i);
     write_line(p.account, mark_at(marks, p.mark), amounts[i], out)
@@ -79,7 +80,7 @@ pub(crate) fn write_positions(
     out: &mut [u8],
 ) -> usize
     requires { ⌜ n ≤ length (now amounts) ⌝ }
-    ensures { λ r. ⌜ Writes (texts (lineAt (marksIn (now (marks .entry))) (positionsIn (now (positions .entry))) (placeOf (now (amounts .entry)))) n) r (now (out .entry)) (now (out .exit)) ⌝ }
+    ensures { λ r. ⌜ Writes (texts (lineAt (marksIn (now (marks .entry))) (positionsIn (now (positions .entry))) (entryOf (now (amounts .entry)))) n) r (now (out .entry)) (now (out .exit)) ⌝ }
 {
     let mut at = 0;
     let mut i = 0;

@@ -14,7 +14,8 @@ use Rattle.numbers.specs.Folds.{table}
 use Rattle.dayfile.specs.Records.{markAt}
 use Rattle.dayfile.specs.Limits.{fileLimits}
 use Rattle.settlement.specs.Prices.{valueAt, changeOf}
-use Rattle.settlement.specs.Steps.{changesOf, blank, Bounded, entryOf, changeCap}
+use Rattle.settlement.specs.Steps.{changesOf, blank, Bounded, changeCap}
+use Rattle.numbers.specs.Integers.{entryOf}
 use Rattle.dayfile.specs.declared.records.Mark.{Mark}
 use Rattle.numbers.proofs.Signed.{size-sub}
 use Rattle.numbers.proofs.Tables.{entry, length-table}

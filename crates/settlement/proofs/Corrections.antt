@@ -6,7 +6,7 @@ use Prim.Native.Nat.{ℕ, _<_}
 use native.Mathlib.Omega.{arith}
 use lib.Dec.{eqb, ltb}
 use lib.ListN.{length}
-use borrow.Author.Tests.{eqb-true, eqb-false, eq-eqb, ne-eqb, ltb-true, ltb-false}
+use borrow.Author.Tests.{eqb-true, eq-eqb, ltb-true, ltb-false}
 use Rattle.numbers.specs.Folds.{first, some}
 use Rattle.dayfile.specs.Records.{Lists, correctionAt, markAt}
 use Rattle.checks.specs.Faults.{clashing, noMark, badPrice}
@@ -19,6 +19,7 @@ use Rattle.numbers.specs.declared.Found.the-variants.{Nothing}
 use Rattle.checks.specs.declared.order.Check.{Check}
 use Rattle.checks.specs.declared.order.Check.the-variants.{Code, Date, PriceLimit, Tick, MarkRepeated, CorrectionMark, CorrectionPrice, CorrectionClash, PositionMark, Lots}
 use Rattle.checks.specs.declared.order.Verdict.the-variants.{Passed}
+use Rattle.numbers.proofs.Truth.{eqb-comm}
 use Rattle.numbers.proofs.Searches.{first-clear, clear-first, some-clear, clear-some}
 use Rattle.checks.proofs.Passed.{clear, passes}
 
@@ -26,13 +27,6 @@ abbrev pub listsWith : List Mark → List Position → List Correction → Lists
 listsWith ms ps cs = record { marks = ms; corrections = cs; positions = ps }
 
 -- ---- check 11: two records that clash
-
-eqb-comm : (m n : ℕ) → eqb m n ≡ eqb n m
-eqb-comm m n = go (eqb m n) refl
-  where
-    go : (b : Bool) → eqb m n ≡ b → eqb m n ≡ eqb n m
-    go true e = e ∙ sym (eq-eqb n m (sym (eqb-true m n e)))
-    go false e = e ∙ sym (ne-eqb n m (λ q. eqb-false m n e (sym q)))
 
 clash-comm : (a b : Correction) → clashing a b ≡ clashing b a
 clash-comm a b =

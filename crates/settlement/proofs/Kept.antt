@@ -17,7 +17,8 @@ use Rattle.settlement.specs.Products.{currencyOf}
 use Rattle.numbers.specs.Folds.{sum}
 use Rattle.dayfile.specs.Records.{markAt, positionAt}
 use Rattle.settlement.specs.Settling.{keepOf, amountOf, shareOf, sumOfAmounts}
-use Rattle.settlement.specs.Steps.{blank, entryOf, keptAt, keptOf, Payable, Bounded, totalCap, changeCap}
+use Rattle.settlement.specs.Steps.{blank, keptAt, keptOf, Payable, Bounded, totalCap, changeCap}
+use Rattle.numbers.specs.Integers.{entryOf}
 use Rattle.dayfile.specs.declared.records.Mark.{Mark}
 use Rattle.dayfile.specs.declared.records.Position.{Position}
 use Rattle.numbers.proofs.Signed.{back-small}

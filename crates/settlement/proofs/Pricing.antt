@@ -1,20 +1,21 @@
 -- What settlement knows of the pricing part: laws that it exports.
-use mathlib.Core.Path.{_≡_, refl, sym, _∙_}
-use Prim.Native.Nat.{ℕ, _*_, _%_, _≤_, _<_, _∣_}
+use mathlib.Core.Path.{_≡_, refl}
+use Prim.Native.Nat.{ℕ, _*_, _%_, _≤_, _∣_}
 use native.Mathlib.Omega.{arith}
 use Rattle.pricing.specs.Calls.{Answer, given, refused, said, valueOf}
-use Rattle.pricing.specs.Products.{find}
+use Rattle.pricing.specs.Products.{find, monthsOf}
 use Rattle.pricing.specs.declared.products.Found.{Found}
 use Rattle.pricing.specs.declared.products.Found.the-variants.{At, Missing}
 use Rattle.pricing.specs.declared.products.Product.{Product}
 use Rattle.pricing.specs.declared.contract.Priced.{Priced}
 use Rattle.pricing.specs.declared.products.Code.{Code}
 use Rattle.pricing.proofs.Promises as pricing
-use Rattle.pricing.proofs.Table.{found-code, found-member, missing-none}
+use Rattle.pricing.proofs.Table.{tells-unlisted, tells-product}
 use Rattle.pricing.specs.Conditions.{Unlisted}
 use native.Mathlib.Nat.{mod-one}
 use lib.Dec.{eqb}
 use mathlib.Core.Bool.{true, not}
+use mathlib.Core.List.{List·Memᴰ}
 use lib.IntN.{ℤ, pos, natAbs, _-ℤ_, _*ℤ_}
 use Rattle.numbers.specs.Fractions.{_minus_, _times_, Within}
 use Rattle.pricing.specs.Prices.{priceLimit}
@@ -24,7 +25,7 @@ use Rattle.pricing.specs.Value.{valueCap}
 use Rattle.checks.specs.Products.{listed, listedIn, quoted, quotedIn, tickOf, tickIn}
 use Rattle.settlement.specs.Products.{orZero, worthOf}
 use Rattle.settlement.specs.Conditions.{Quoted}
-use Rattle.numbers.proofs.Truth.{Tells, not-both, tells-as, tells-not, tells-divides}
+use Rattle.numbers.proofs.Truth.{Tells, not-both, tells-not, tells-divides}
 
 by-answer : (a : Code) (p : ℕ) (x : Answer) → valueOf a p ≡ x → orZero x ≤ valueCap
 by-answer a p (given n) e = pricing.value-cap a p e
@@ -42,40 +43,18 @@ by-value a p x {n} e h =
     (q, rw q (by-answer a p (valueOf a p) refl))
 
 -- what the tests of the product table tell
-missing-by : (a : Code) (o : Found) → find a ≡ o → Tells (not (listedIn o)) (Unlisted a)
-missing-by a (At q) e = record { yes = λ b. not-both b refl; no = λ b h. h q (found-member a e) (found-code a e) }
-missing-by a Missing e = record { yes = λ b. missing-none a e; no = λ b. not-both refl b }
-
 pub tells-missing : (a : Code) → Tells (not (listed a)) (Unlisted a)
 unfolding listed
-tells-missing a = missing-by a (find a) refl
-
-off-tick-by : (a : Code) (p : ℕ) (o : Found) → find a ≡ o → Tells (not (eqb (p % tickIn o) 0)) ((q : Product) × (find a ≡ At q) × ¬ (q .tick ∣ p))
-off-tick-by a p (At q) e =
-    tells-as (λ n. (q, e, n)) (λ x. (let same : x .0 ≡ q = (let f = x .1 in cc) in rw same at (x .2)))
-    (tells-not (eqb (p % q .tick) 0) (tells-divides (q .tick) p))
-off-tick-by a p Missing e =
-    record {
-      yes = λ b. not-both b (rw (mod-one p));
-      no = λ b x. (let z : _≡_ {A = ℕ} 0 1 = (let f = x .1 in cc) in omega arith);
-    }
+tells-missing a = tells-unlisted a (λ f. not (listedIn f)) (λ q. refl) refl
 
 pub tells-off-tick : (a : Code) (p : ℕ) → Tells (not (eqb (p % tickOf a) 0)) ((q : Product) × (find a ≡ At q) × ¬ (q .tick ∣ p))
 unfolding tickOf
-tells-off-tick a p = off-tick-by a p (find a) refl
-
-quoted-by : (a : Code) (m : ℕ) (o : Found) → find a ≡ o → Tells (quotedIn o m) (Quoted a m)
-quoted-by a m (At q) e =
-    record {
-      yes = λ h. (q, e, pricing.month-exactly q m .0 h);
-      no = λ h x. (let r : x .0 ≡ q = (let f = x .1 in cc) in not-both (pricing.month-exactly q m .1 (rw r at (x .2))) h);
-    }
-quoted-by a m Missing e =
-    record { yes = λ h. not-both h refl; no = λ h x. (let z : _≡_ {A = ℕ} 0 1 = (let f = x .1 in cc) in omega arith) }
+tells-off-tick a p =
+    tells-product a (λ f. not (eqb (p % tickIn f) 0)) {A = λ q. ¬ (q .tick ∣ p)} (λ q. tells-not (eqb (p % q .tick) 0) (tells-divides (q .tick) p)) (rw (mod-one p))
 
 pub tells-quoted : (a : Code) (m : ℕ) → Tells (quoted a m) (Quoted a m)
 unfolding quoted
-tells-quoted a m = quoted-by a m (find a) refl
+tells-quoted a m = tells-product a (λ f. quotedIn f m) {A = λ q. List·Memᴰ m (monthsOf q)} (λ q. record { yes = pricing.month-exactly q m .0; no = λ h x. not-both (pricing.month-exactly q m .1 x) h }) refl
 
 -- a price that is allowed for a product has a value
 pub valued : (a : Code) (p : ℕ) → listed a ≡ true → p ≤ priceLimit → p % tickOf a ≡ 0 → (n : ℕ) × (valueOf a p ≡ given n)

@@ -12,7 +12,8 @@ use Rattle.dayfile.specs.Records.{Lists, markAt, positionAt}
 use Rattle.settlement.specs.Prices.{finalOf}
 use Rattle.settlement.specs.Settling.{keepOf, amountOf, netOf, shareOf, sumOfAmounts, totalOf, changeIn, paid}
 use Rattle.checks.specs.Steps.{Accepted}
-use Rattle.settlement.specs.Steps.{changesOf, entryOf}
+use Rattle.settlement.specs.Steps.{changesOf}
+use Rattle.numbers.specs.Integers.{entryOf}
 use Rattle.dayfile.specs.declared.records.Mark.{Mark}
 use Rattle.dayfile.specs.declared.records.Position.{Position}
 use Rattle.numbers.proofs.Tables.{table-same}

@@ -16,7 +16,6 @@ use Rattle.checks.specs.Judging.{resentOf}
 use Rattle.dayfile.specs.Layout.{openedOf, listsIn, listsOfFile}
 use Rattle.settlement.specs.Prices.{finalOf, changeOf}
 use Rattle.dayfile.specs.declared.records.Mark.{Mark}
-use Rattle.dayfile.specs.declared.records.Correction.{Correction}
 use Rattle.dayfile.specs.declared.records.Position.{Position}
 use Rattle.dayfile.specs.declared.file.Opened.{Opened}
 use Rattle.dayfile.specs.declared.file.Opened.the-variants as opened

@@ -6,6 +6,7 @@ use lib.IntN.{ℤ, pos, natAbs}
 use lib.ListN.{length, getD, replicate}
 use Rattle.pricing.specs.declared.products.Currency.{Currency}
 use Rattle.numbers.specs.Folds.{front}
+use Rattle.numbers.specs.Integers.{entryOf}
 use Rattle.dayfile.specs.Limits.{fileLimits, lotsLimit}
 use Rattle.dayfile.specs.Records.{Lists, markAt, positionAt}
 use Rattle.dayfile.specs.Layout.{listsIn}
@@ -68,9 +69,6 @@ pub record Payable (ps : List Position) : Type 0 where
 -- an array of changes in range
 pub record Bounded (a : List ℤ) : Type 0 where
   pub entries : (m : ℕ) → natAbs (getD a m (pos 0)) ≤ changeCap
-
-abbrev pub entryOf : List ℤ → ℕ → ℤ
-entryOf a m = getD a m (pos 0)
 
 -- an array's entry where the mark's currency is the wanted one, else 0
 abbrev pub keptAt : List Mark → Currency → List ℤ → ℕ → ℤ

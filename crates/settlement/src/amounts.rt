@@ -13,7 +13,8 @@ ghost use Rattle.numbers.specs.Folds.{front, sum};
 ghost use Rattle.dayfile.specs.Limits.{lotsLimit};
 ghost use Rattle.dayfile.specs.Records.{marksIn, positionsIn};
 ghost use Rattle.settlement.specs.Settling.{keepOf, amountOf, sumOfAmounts};
-ghost use Rattle.settlement.specs.Steps.{changeCap, amountCap, totalCap, Payable, Bounded, entryOf, keptOf};
+ghost use Rattle.settlement.specs.Steps.{changeCap, amountCap, totalCap, Payable, Bounded, keptOf};
+ghost use Rattle.numbers.specs.Integers.{entryOf};
 
 // Lots times a change in value.
 fn times(lots: i64, change: i64) -> i64

@@ -1,16 +1,10 @@
 // Lines of text on standard output.
 ghost use Prim.Native.Nat.{_<_};
-use libc::STDOUT_FILENO;
 use pricing::Code;
 use pricing::Priced;
-
-fn text(bytes: &[u8]) {
-    io::write_all(STDOUT_FILENO, bytes);
-}
-
-fn number(n: u64) {
-    io::print_decimal(STDOUT_FILENO, n);
-}
+use printing::field;
+use printing::number;
+use printing::text;
 
 fn letters(code: Code) {
     text(&[code.0, code.1]);
@@ -19,21 +13,17 @@ fn letters(code: Code) {
 // A space, and the number given or the refusal.
 fn answer(a: Priced) {
     match a {
-        Priced::Given(n) => {
-            text(b" ");
-            number(n);
-        }
+        Priced::Given(n) => field(n),
         Priced::Refused(k) => {
-            text(b" refused ");
-            number(k as u64);
+            text(b" refused");
+            field(k as u64);
         }
     }
 }
 
 // The rest of a line after its code: price, value, tick value, bracket.
 fn answers(code: Code, price: u32) {
-    text(b" ");
-    number(price as u64);
+    field(price as u64);
     answer(pricing::value(code, price));
     answer(pricing::tick_value(code, price));
     answer(pricing::bracket(code, price));
@@ -55,8 +45,7 @@ pub(crate) fn at_prices(code: Code, first: u32, last: u32, step: u32)
 // A line whose code is written as two numbers, since it need not be text.
 pub(crate) fn of_bytes(code: Code, price: u32) {
     number(code.0 as u64);
-    text(b" ");
-    number(code.1 as u64);
+    field(code.1 as u64);
     answers(code, price);
 }
 
@@ -70,9 +59,9 @@ pub(crate) fn digest(code: Code, label: &[u8], h: u64) {
 
 // A digest of the answers for all codes at a price.
 pub(crate) fn all_codes(price: u32, h: u64) {
-    text(b"all codes ");
-    number(price as u64);
-    text(b" digest ");
-    number(h);
+    text(b"all codes");
+    field(price as u64);
+    text(b" digest");
+    field(h);
     text(b"\n");
 }

@@ -1,5 +1,5 @@
 // Prints the answers of `pricing` for many codes and prices: lines to read, and digests of all answers.
-// tests/calculator.py works out the same text by itself.
+// tests/sweep.py works out the same text by itself.
 mod digest;
 mod lines;
 

@@ -12,9 +12,6 @@ returns c = rw (c .before .before .enum-told .given .1) (by-one contractKey (c .
 returns-2 : tie.Need-returns-2
 returns-2 c = rw (c .before .enum-told2 .given .1) (ap (λ (x : Correction). x .number) (c .correction-at .ensures))
 
-returns-3 : tie.Need-returns-3
-returns-3 c = rw (c .before .enum-told3 .given .1) (ap (λ (x : Correction). x .number) (c .correction-at2 .ensures))
-
 pub key-spec : {M : Type 1} → statement M
 key-spec =
     tie.close
@@ -24,8 +21,5 @@ key-spec =
     (λ c κs. search needs)
     (λ c. search needs)
     (λ c κs. search needs)
-    (λ c. search needs)
-    (λ c κs. search needs)
     returns
-    returns-2
-    returns-3)
+    returns-2)

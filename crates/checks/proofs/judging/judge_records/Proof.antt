@@ -1,4 +1,4 @@
-use mathlib.Core.Path.{_≡_, refl}
+use mathlib.Core.Path.{refl}
 use Rattle.checks.proofs.Judgements.{by-verdict}
 use Rattle.checks.proofs.Told.{told}
 use borrow.Author.Needs.{needs}

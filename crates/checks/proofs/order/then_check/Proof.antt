@@ -1,5 +1,4 @@
 use Rattle.checks.specs.Checks.{failedAt}
-use Rattle.numbers.proofs.Chain.{by-one}
 use mathlib.Core.Path.{sym, ap, _∙_}
 use borrow.Author.Needs.{needs}
 use Rattle.checks.proofs.order.then_check.Statement.{statement}

@@ -1,6 +1,5 @@
-use native.Mathlib.Omega.{arith}
 use mathlib.Core.Path.{refl}
-use Rattle.checks.proofs.Pricing.{by-lookup, tick-positive}
+use Rattle.checks.proofs.Pricing.{by-lookup}
 use Rattle.checks.specs.Products.{tickOf, tickIn}
 use borrow.Author.Needs.{needs}
 use Rattle.checks.proofs.products.tick.Statement.{statement}
@@ -9,12 +8,12 @@ use Rattle.checks.proofs.products.tick.Tie as tie
 returns : tie.Need-returns
 unfolding tickOf
 returns c =
-    (by-lookup tickIn _ (c .before .before .before .lookup .ensures) (c .before .q .given .1) refl, tick-positive _ (c .before .before .before .lookup .ensures) (c .before .q .given .1))
+    by-lookup tickIn _ (c .before .before .before .lookup .ensures) (c .before .q .given .1) refl
 
 returns-2 : tie.Need-returns-2
 unfolding tickOf
 returns-2 c =
-    (by-lookup tickIn _ (c .before .before .lookup .ensures) (c .enum-told .given .1) refl, omega arith)
+    by-lookup tickIn _ (c .before .before .lookup .ensures) (c .enum-told .given .1) refl
 
 pub tick-spec : {M : Type 1} → statement M
 tick-spec = tie.close

@@ -1,12 +1,8 @@
 -- `check` meets its contract.
 use Rattle.pricing.specs.Steps.{checkOf}
-use Rattle.pricing.proofs.Table.{sound}
 use borrow.Author.Needs.{needs}
 use Rattle.pricing.proofs.contract.check.Statement.{statement}
 use Rattle.pricing.proofs.contract.check.Tie as tie
-
-judge-requires : tie.Need-judge-requires
-judge-requires c κs = sound _ (c .before .before .before .lookup .ensures) (c .before .q .given .1) .tick
 
 returns : tie.Need-returns
 unfolding checkOf
@@ -26,7 +22,7 @@ check-spec =
     (tie.spec
     (λ c κs. search needs)
     (λ c. search needs)
-    judge-requires
+    (λ c κs. search needs)
     (λ c. search needs)
     (λ c. search needs)
     (λ c. search needs)

@@ -10,16 +10,13 @@ returns : tie.Need-returns
 unfolding judged priceLimit
 returns c = simp (lt-leb _ _ (c .if1 .taken))
 
-rem-if2 : tie.Need-rem-if2
-rem-if2 c = search needs
-
 returns-2 : tie.Need-returns-2
 unfolding judged priceLimit
-returns-2 c = simp (le-leb _ _ (c .before .if1 .left), ne-eqb _ _ (c .if2 .taken))
+returns-2 c = simp (le-leb _ _ (c .before .before .if1 .left), ← c .before .rest .ensures, ne-eqb _ _ (c .if2 .taken))
 
 returns-3 : tie.Need-returns-3
 unfolding judged priceLimit
-returns-3 c = simp (le-leb _ _ (c .before .if1 .left), eq-eqb _ _ (c .if2 .left))
+returns-3 c = simp (le-leb _ _ (c .before .before .if1 .left), ← c .before .rest .ensures, eq-eqb _ _ (c .if2 .left))
 
 pub judge-spec : {M : Type 1} → statement M
-judge-spec = tie.close (tie.spec returns rem-if2 returns-2 returns-3)
+judge-spec = tie.close (tie.spec returns (λ c κs. search needs) returns-2 returns-3)

@@ -8,9 +8,6 @@ use borrow.Author.Needs.{needs}
 use Rattle.pricing.proofs.contract.two_values.Statement.{statement}
 use Rattle.pricing.proofs.contract.two_values.Tie as tie
 
-judge-requires : tie.Need-judge-requires
-judge-requires c κs = allowed _ _ (c .before .before .before .check .ensures) (c .before .terms .given .1) .positive
-
 values-at-requires : tie.Need-values-at-requires
 values-at-requires c κs =
     let h = allowed _ _ (c .before .before .before .before .before .before .check .ensures) (c .before .before .before .before .terms .given .1) in
@@ -30,7 +27,7 @@ two-values-spec =
     (tie.spec
     (λ c κs. search needs)
     (λ c. search needs)
-    judge-requires
+    (λ c κs. search needs)
     (λ c. search needs)
     values-at-requires
     returns

@@ -1,5 +1,5 @@
 use Rattle.report.specs.Lines.{lineAt}
-use Rattle.report.specs.Steps.{placeOf}
+use Rattle.numbers.specs.Integers.{entryOf}
 use Rattle.dayfile.specs.Records.{marksIn, positionsIn}
 use Prim.Native.Nat.{_≤_, _-_}
 use native.Mathlib.Omega.{arith}
@@ -12,7 +12,7 @@ use Rattle.report.proofs.positions.write_positions.Tie as tie
 
 abbrev Inv-loop : tie.InvT-loop
 Inv-loop marks positions amounts n out₀ at₀ i₀ out at i =
-    (i ≤ n) × Writes (texts (lineAt (marksIn marks) (positionsIn positions) (placeOf amounts)) i) at out₀ out
+    (i ≤ n) × Writes (texts (lineAt (marksIn marks) (positionsIn positions) (entryOf amounts)) i) at out₀ out
 
 abbrev μ-loop : tie.MeasureT-loop
 μ-loop marks positions amounts n out₀ at₀ i₀ out at i = n - i

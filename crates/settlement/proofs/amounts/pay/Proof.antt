@@ -5,7 +5,7 @@ use lib.ListN.{length}
 use Rattle.numbers.specs.Folds.{front}
 use Rattle.dayfile.specs.Records.{positionsIn}
 use Rattle.settlement.specs.Settling.{amountOf}
-use Rattle.settlement.specs.Steps.{entryOf}
+use Rattle.numbers.specs.Integers.{entryOf}
 use Rattle.numbers.proofs.Chain.{at-end}
 use Rattle.numbers.proofs.Signed.{back}
 use Rattle.numbers.proofs.Tables.{filled, length-front}

@@ -8,7 +8,7 @@ use mir.Val.{ofZ}
 use Rattle.numbers.specs.Folds.{sum}
 use Rattle.dayfile.specs.Records.{positionsIn}
 use Rattle.settlement.specs.Settling.{amountOf}
-use Rattle.settlement.specs.Steps.{entryOf}
+use Rattle.numbers.specs.Integers.{entryOf}
 use Rattle.numbers.proofs.Chain.{by-two, at-end}
 use Rattle.numbers.proofs.Signed.{back}
 use Rattle.settlement.proofs.Sizes.{amount-small}
