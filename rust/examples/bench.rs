@@ -70,14 +70,24 @@ fn print_settle_row(label: &str, [proved, plain, hashed]: [f64; 3]) {
     println!("{label:>21} {proved:>9.1} {plain:>9.1} {to_plain:>9.2} {hashed:>9.1} {to_hashed:>9.2}");
 }
 
-/// Gives each correction another number of one bucket of the library's, so that its chain is as long as the list.
-fn with_one_bucket(mut day: Day) -> Day {
-    let bucket = |number: u32| u64::from(number) * 2_654_435_761 / 1_048_576 % 4_096;
-    let numbers = (0..u32::MAX).filter(|&number| bucket(number) == 0);
-    for (correction, number) in day.corrections.iter_mut().zip(numbers) {
-        correction.number = number;
+/// Gives the corrections numbers whose products with the library's multiplier are these. The multiplier is odd, so it has an inverse.
+fn with_products(mut day: Day, product: impl Fn(u32) -> u32) -> Day {
+    const INVERSE: u32 = 244_002_641;
+    assert_eq!(INVERSE.wrapping_mul(2_654_435_761), 1);
+    for (index, correction) in day.corrections.iter_mut().enumerate() {
+        correction.number = product(index as u32).wrapping_mul(INVERSE);
     }
     day
+}
+
+/// All corrections start at one root of the library's tree.
+fn with_one_root(day: Day) -> Day {
+    with_products(day, |index| index * 2_047 % 1_048_576)
+}
+
+/// All start at one root and agree in the first eleven bits of their walks too, which leaves nine bits to tell 512 numbers apart.
+fn with_long_walks(day: Day) -> Day {
+    with_products(day, |index| index * 2_048)
 }
 
 fn with_equal_corrections(mut day: Day) -> Day {
@@ -96,7 +106,8 @@ fn other_days(random: &mut Random) -> Vec<(&'static str, Day)> {
     vec![
         ("some resent", day_of_products(random, &PRODUCTS, full)),
         ("equal corrections", with_equal_corrections(day_of_products(random, &PRODUCTS, full))),
-        ("one bucket", with_one_bucket(day_of_products(random, &PRODUCTS, full))),
+        ("one root", with_one_root(day_of_products(random, &PRODUCTS, full))),
+        ("long walks", with_long_walks(day_of_products(random, &PRODUCTS, full))),
         ("bills only", of(random, &[*b"IR", *b"BB"])),
         ("longest bonds only", of(random, &[*b"XX"])),
         ("1 mark", with_distinct_numbers(day_of(random, 1, MAX_CORRECTIONS, MAX_POSITIONS))),

@@ -66,7 +66,7 @@ fn bad_price(m: Mark, c: Correction) -> bool
 }
 
 // 11: two corrections agree in number but differ in mark or price.
-pub(crate) fn clash(b: Correction, c: Correction) -> bool
+pub(crate) fn clashing(b: Correction, c: Correction) -> bool
     ensures { λ r. ⌜ r ≡ clashing b c ⌝ }
 {
     (b.number == c.number) & ((b.mark != c.mark) | (b.price != c.price))

@@ -3,7 +3,7 @@ use crate::earlier::wide;
 use crate::faults::bad_code;
 use crate::faults::bad_date;
 use crate::faults::bad_lots;
-use crate::faults::clash;
+use crate::faults::clashing;
 use crate::faults::correction_off;
 use crate::faults::high_mark;
 use crate::faults::no_mark;
@@ -54,7 +54,7 @@ fn clashes_below(corrections: &[u8], i: usize, k: usize) -> bool
     if k == 0 {
         return false;
     }
-    clash(
+    clashing(
         correction_at(corrections, i),
         correction_at(corrections, k - 1),
     )

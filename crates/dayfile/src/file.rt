@@ -66,7 +66,7 @@ fn counts(s: &[u8]) -> DayFile
 }
 
 // Whether the counts are within the file's limits.
-fn limited(d: DayFile) -> bool
+fn within_limits(d: DayFile) -> bool
     ensures { λ r. ⌜ r ≡ withinLimits fileLimits d ⌝ }
 {
     (d.marks as usize <= DayFile::MAX_MARKS)
@@ -75,7 +75,7 @@ fn limited(d: DayFile) -> bool
 }
 
 // Whether the offsets and the file's length are those of the layout.
-fn laid_out(s: &[u8], d: DayFile) -> bool
+fn as_laid_out(s: &[u8], d: DayFile) -> bool
     requires { ⌜ headerSize ≤ length (now s) ⌝ }
     ensures { λ r. ⌜ r ≡ asLaidOut (now (s .entry)) d ⌝ }
 {
@@ -93,8 +93,8 @@ pub fn open_file(s: &[u8]) -> Opened
         return Opened::Refused(1);
     }
     let d = counts(s);
-    if limited(d) {
-        if laid_out(s, d) {
+    if within_limits(d) {
+        if as_laid_out(s, d) {
             Opened::File(d)
         } else {
             Opened::Refused(3)

@@ -15,7 +15,7 @@ returns-2 : tie.Need-returns-2
 returns-2 c =
     let a = c .before .before .before .before .before .args in
     below-one (correctionsIn (a .corrections .now)) (a .i) (a .k) (a .k - 1) (omega (arith, c .before .before .before .if1 .left))
-    (by-two clashing (c .clash .ensures) (c .before .before .correction-at .ensures) (c .before .correction-at2 .ensures))
+    (by-two clashing (c .clashing .ensures) (c .before .before .correction-at .ensures) (c .before .correction-at2 .ensures))
 
 pub clashes-below-spec : {M : Type 1} → statement M
 clashes-below-spec = tie.close

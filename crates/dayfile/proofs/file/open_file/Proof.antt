@@ -11,16 +11,16 @@ returns c =
 returns-2 : tie.Need-returns-2
 returns-2 c =
     let e = c .before .before in
-    accepted _ (e .before .before .before .if1 .left) (e .before .before .counts .ensures) (sym (e .before .limited .ensures) ∙ e .if2 .taken) (sym (c .before .laid-out .ensures) ∙ c .if3 .taken)
+    accepted _ (e .before .before .before .if1 .left) (e .before .before .counts .ensures) (sym (e .before .within-limits .ensures) ∙ e .if2 .taken) (sym (c .before .as-laid-out .ensures) ∙ c .if3 .taken)
 
 returns-3 : tie.Need-returns-3
 returns-3 c =
     let e = c .before .before in
-    refused-3 _ (e .before .before .before .if1 .left) (e .before .before .counts .ensures) (sym (e .before .limited .ensures) ∙ e .if2 .taken) (sym (c .before .laid-out .ensures) ∙ c .if3 .left)
+    refused-3 _ (e .before .before .before .if1 .left) (e .before .before .counts .ensures) (sym (e .before .within-limits .ensures) ∙ e .if2 .taken) (sym (c .before .as-laid-out .ensures) ∙ c .if3 .left)
 
 returns-4 : tie.Need-returns-4
 returns-4 c =
-    refused-2 _ (c .before .before .before .if1 .left) (c .before .before .counts .ensures) (sym (c .before .limited .ensures) ∙ c .if2 .left)
+    refused-2 _ (c .before .before .before .if1 .left) (c .before .before .counts .ensures) (sym (c .before .within-limits .ensures) ∙ c .if2 .left)
 
 pub open-file-spec : {M : Type 1} → statement M
 open-file-spec =
