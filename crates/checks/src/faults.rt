@@ -5,7 +5,6 @@ use dayfile::Mark;
 use dayfile::Position;
 use dayfile::mark_at;
 use dayfile::mark_count;
-use pricing::rest;
 ghost use mathlib.Core.Path.{_≡_};
 ghost use Rattle.dayfile.specs.Records.{marksIn, markAt};
 ghost use Rattle.checks.specs.Faults.{offTick, badCode, badDate, highMark, offMark, noMark, badPrice, clashing, badLots};
@@ -20,7 +19,7 @@ const MOST_LOTS: i64 = 1_000_000;
 fn off_tick(m: Mark, p: u32) -> bool
     ensures { λ r. ⌜ r ≡ offTick m p ⌝ }
 {
-    rest(p, products::tick(m.code)) != 0
+    pricing::off_tick(p, products::tick(m.code))
 }
 
 // 4: the code is not in the product table.

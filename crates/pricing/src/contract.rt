@@ -11,7 +11,7 @@ use crate::products::Found;
 use crate::products::PRICE_LIMIT;
 use crate::products::Terms;
 use crate::products::lookup;
-use crate::products::rest;
+use crate::products::off_tick;
 use crate::values::value_at;
 use crate::values::values_at;
 
@@ -33,7 +33,7 @@ fn judge(tick: u32, p: u32) -> Judged
     if PRICE_LIMIT < p {
         return Judged::Failed(6);
     }
-    if rest(p, tick) != 0 {
+    if off_tick(p, tick) {
         return Judged::Failed(7);
     }
     Judged::Passed

@@ -19,4 +19,4 @@ pub use products::Product;
 pub use products::Terms;
 pub use products::has_month;
 pub use products::lookup;
-pub use products::rest;
+pub use products::off_tick;

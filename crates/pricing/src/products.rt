@@ -1,5 +1,7 @@
 // The product table, and the product that a code names.
 ghost use mathlib.Core.Path.{_≡_};
+ghost use mathlib.Core.Bool.{not};
+ghost use lib.Dec.{eqb};
 ghost use Prim.Native.Nat.{_%_, _<_};
 ghost use lib.ListN.{getD};
 ghost use Rattle.pricing.specs.Products.{products, noProduct, sameCode, find, hasMonth};
@@ -138,21 +140,22 @@ pub fn lookup(code: Code) -> Found
     Found::Missing
 }
 
-// What a price leaves when divided by a tick, all of it where the tick is 0. Dividing by the table's ticks as constants is several times
-// faster than by a number that the compiler does not know.
-pub fn rest(p: u32, tick: u32) -> u32
-    ensures { λ r. ⌜ r ≡ p % tick ⌝ }
+// Whether a price is not a multiple of a tick. The table's ticks are 50 and 100: by these the compiler divides without a division, which
+// takes several times as long.
+pub fn off_tick(p: u32, tick: u32) -> bool
+    ensures { λ r. ⌜ r ≡ not (eqb (p % tick) 0) ⌝ }
 {
+    let off = p % 50 != 0;
     if tick == 50 {
-        return p % 50;
+        return off;
     }
     if tick == 100 {
-        return p % 100;
+        return off | (p / 50 % 2 != 0);
     }
     if tick == 0 {
-        return p;
+        return p != 0;
     }
-    p % tick
+    p % tick != 0
 }
 
 // Whether a month is one of the product's.
