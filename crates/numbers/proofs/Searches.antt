@@ -47,18 +47,6 @@ clear-first t (suc n) h = rw (clear-first t n (λ k l. h k (omega arith)), h n (
 
 -- ---- whether there is one
 
-pub some-none : (t : ℕ → Bool) → some t 0 ≡ false
-unfolding some
-some-none t = refl
-
-pub some-more : (t : ℕ → Bool) (i : ℕ) {r : Bool} → some t i ≡ false → r ≡ t i → r ≡ false → some t (i + 1) ≡ false
-unfolding some
-some-more t i p e f = rw (add-one, p, ← e, f)
-
-pub some-here : (t : ℕ → Bool) (n i : ℕ) {r : Bool} → i < n → some t i ≡ false → r ≡ t i → r ≡ true → some t n ≡ true
-unfolding some
-some-here t n i h p e f = le-ind (λ (m : ℕ). some t m ≡ true) (rw (p, ← e, f)) (λ m le q. rw q) n h
-
 pub or-none : (a b : Bool) → (a || b) ≡ false → (a ≡ false) × (b ≡ false)
 or-none false b e = (refl, e)
 or-none true b e = absurd (let z : _≡_ {A = ℕ} 0 1 = cc in omega arith)
