@@ -1,5 +1,5 @@
 // What a settlement left in the slice of amounts.
-use printing::digest_with;
+use digests::digest_with;
 use text::magnitude;
 
 // What every place holds before a settlement. No position has this amount.

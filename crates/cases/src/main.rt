@@ -5,13 +5,32 @@ mod amounts;
 use amounts::UNTOUCHED;
 use amounts::digest;
 use amounts::untouched;
-use printing::field;
-use printing::signed_field;
-use printing::text;
+use libc::STDOUT_FILENO;
 use settlement::Settlement;
+use text::magnitude;
 
 // More places than a file can have positions.
 const PLACES: usize = 4_100;
+
+fn print(bytes: &[u8]) {
+    io::write_all(STDOUT_FILENO, bytes);
+}
+
+// A space and a number.
+fn field(n: u64) {
+    print(b" ");
+    io::print_decimal(STDOUT_FILENO, n);
+}
+
+// A space and a signed number.
+fn signed_field(x: i64) {
+    if x < 0 {
+        print(b" -");
+        io::print_decimal(STDOUT_FILENO, magnitude(x));
+    } else {
+        field(magnitude(x));
+    }
+}
 
 // The line's rest after its name. It says so where a place was written that holds no amount of the file.
 fn print_answer(answer: Settlement, amounts: &[i64]) {
@@ -30,9 +49,9 @@ fn print_answer(answer: Settlement, amounts: &[i64]) {
             print_touched(amounts, positions);
         }
         Settlement::Refused { number, index } => {
-            text(b" refused");
+            print(b" refused");
             field(number as u64);
-            text(b" at");
+            print(b" at");
             field(index as u64);
             print_touched(amounts, 0);
         }
@@ -41,7 +60,7 @@ fn print_answer(answer: Settlement, amounts: &[i64]) {
 
 fn print_touched(amounts: &[i64], n: usize) {
     if !untouched(amounts, n) {
-        text(b" and wrote elsewhere");
+        print(b" and wrote elsewhere");
     }
 }
 
@@ -58,11 +77,11 @@ fn settle_into(file: &[u8], amounts: &mut [i64], places: usize) {
 
 // Settles the file of that name, with so many places for amounts.
 fn case_with(name: &[u8], places: usize) {
-    text(name);
-    text(b":");
+    print(name);
+    print(b":");
     let fd = os::open_read(name);
     if fd < 0 {
-        text(b" no such file\n");
+        print(b" no such file\n");
         return;
     }
     let mut file = io::large_buffer();
@@ -70,7 +89,7 @@ fn case_with(name: &[u8], places: usize) {
     libc::close(fd);
     let mut amounts = [UNTOUCHED; PLACES];
     settle_into(&file[..n], &mut amounts, places);
-    text(b"\n");
+    print(b"\n");
 }
 
 fn case(name: &[u8]) {

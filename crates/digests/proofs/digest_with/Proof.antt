@@ -4,9 +4,9 @@ use Prim.Native.Nat.{ℕ, _+_, _*_, _/_, _%_}
 use native.Mathlib.Nat.{add-mod-mod, add-mul-mod-self-left, div-add-mod}
 use native.Mathlib.Omega.{arith}
 use borrow.Author.Needs.{needs}
-use Rattle.printing.specs.Digest.{prime, digestWith}
-use Rattle.printing.proofs.digest.digest_with.Statement.{statement}
-use Rattle.printing.proofs.digest.digest_with.Tie as tie
+use Rattle.digests.specs.Digest.{prime, digestWith}
+use Rattle.digests.proofs.digest_with.Statement.{statement}
+use Rattle.digests.proofs.digest_with.Tie as tie
 
 -- h is its remainder and p * (h / p), which k times is a multiple of p too
 remainders : (h n k p : ℕ) → (h % p * k + n % p) % p ≡ (h * k + n) % p

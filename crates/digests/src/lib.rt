@@ -1,6 +1,6 @@
 // A digest: one number for a long list of numbers. Another number in any one place makes another digest, as long as all are below PRIME.
 ghost use mathlib.Core.Path.{_≡_};
-ghost use Rattle.printing.specs.Digest.{digestWith};
+ghost use Rattle.digests.specs.Digest.{digestWith};
 
 // The largest prime below 2^56, far above every value, tick value, bracket and amount.
 const PRIME: u64 = 72_057_594_037_927_931;
