@@ -1,6 +1,5 @@
 pub mod Passed
 pub mod Pricing
 mod Judgements
-mod Pairs
 mod Clashes
-mod Told
+mod Repeats

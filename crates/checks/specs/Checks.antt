@@ -5,7 +5,8 @@ use mathlib.Core.List.{List, [], _∷_, foldl}
 use lib.ListN.{length}
 use Rattle.numbers.specs.Folds.{first, some}
 use Rattle.dayfile.specs.Records.{Lists, markAt, correctionAt, positionAt}
-use Rattle.checks.specs.Faults.{badCode, badDate, highMark, offMark, sameContract, noMark, badPrice, clashing, sameNumber, badLots}
+use Rattle.pairs.specs.Pairs.{contractPair}
+use Rattle.checks.specs.Faults.{badCode, badDate, highMark, offMark, noMark, badPrice, clashing, badLots}
 use Rattle.dayfile.specs.declared.records.Mark.{Mark}
 use Rattle.dayfile.specs.declared.records.Correction.{Correction}
 use Rattle.dayfile.specs.declared.records.Position.{Position}
@@ -16,15 +17,9 @@ use Rattle.checks.specs.declared.order.Check.the-variants.{Code, Date, P
 use Rattle.checks.specs.declared.order.Verdict.{Verdict}
 use Rattle.checks.specs.declared.order.Verdict.the-variants.{Passed, Failed}
 
--- the records with indices i and k are a pair of this kind: two marks of one contract, two corrections that clash, two with one number
-abbrev pub contractPair : List Mark → ℕ → ℕ → Bool
-contractPair ms i k = sameContract (markAt ms i) (markAt ms k)
-
+-- the corrections with indices i and k clash
 abbrev pub clashPair : List Correction → ℕ → ℕ → Bool
 clashPair cs i k = clashing (correctionAt cs i) (correctionAt cs k)
-
-abbrev pub numberPair : List Correction → ℕ → ℕ → Bool
-numberPair cs i k = sameNumber (correctionAt cs i) (correctionAt cs k)
 
 -- record i makes a pair with an earlier one
 abbrev pub repeating : (ℕ → ℕ → Bool) → ℕ → Bool

@@ -1,4 +1,4 @@
--- What each check looks for in a record, or in a record and an earlier one.
+-- What each check looks for in a record, or in a record and an earlier one. (8 is `sameContract` of pairs.)
 use Prim.Native.Nat.{ℕ, _%_}
 use mathlib.Core.Bool.{Bool, not, _||_, _&&_}
 use mathlib.Core.List.{List}
@@ -8,6 +8,7 @@ use lib.ListN.{length}
 use lib.Signed.{ltZ}
 use Rattle.numbers.specs.Integers.{isZero}
 use Rattle.dayfile.specs.Limits.{yearLimit, lotsLimit}
+use Rattle.pairs.specs.Pairs.{sameNumber}
 use Rattle.checks.specs.Products.{aboveLimit, listed, quoted, tickOf}
 use Rattle.dayfile.specs.declared.records.Mark.{Mark}
 use Rattle.dayfile.specs.declared.records.Correction.{Correction}
@@ -32,10 +33,6 @@ highMark m = aboveLimit (m .previous) || aboveLimit (m .today)
 abbrev pub offMark : Mark → Bool
 offMark m = offTick m (m .previous) || offTick m (m .today)
 
--- 8: two marks agree in code, month and year
-abbrev pub sameContract : Mark → Mark → Bool
-sameContract m n = eqb (m .code .0) (n .code .0) && eqb (m .code .1) (n .code .1) && eqb (m .month) (n .month) && eqb (m .year) (n .year)
-
 -- 9 and 12: there is no mark with this index
 abbrev pub noMark : List Mark → ℕ → Bool
 noMark ms k = leb (length ms) k
@@ -43,9 +40,6 @@ noMark ms k = leb (length ms) k
 -- 10
 abbrev pub badPrice : Mark → Correction → Bool
 badPrice m c = aboveLimit (c .price) || offTick m (c .price)
-
-abbrev pub sameNumber : Correction → Correction → Bool
-sameNumber b c = eqb (b .number) (c .number)
 
 -- 11: two corrections agree in number but differ in mark or price
 abbrev pub clashing : Correction → Correction → Bool

@@ -3,4 +3,4 @@ pub mod Faults
 pub mod Checks
 pub mod Judging
 pub mod Steps
-pub mod Earlier
+pub mod Told

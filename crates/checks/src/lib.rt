@@ -1,9 +1,9 @@
 // The checks that a day file must pass to be settled.
-mod earlier;
 mod faults;
 mod judging;
 mod order;
 mod products;
+mod told;
 
 pub use judging::Judged;
 pub use judging::judge;

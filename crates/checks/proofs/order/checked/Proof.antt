@@ -6,10 +6,16 @@ returns : tie.Need-returns
 unfolding verdictOf
 returns c =
     rw (
-      c .then-check2 .ensures,
-      c .before .then-check .ensures,
-      c .before .before .checked-corrections .ensures,
-      c .before .before .before .checked-marks .ensures,
+      c .then10 .ensures,
+      c .before .then9 .ensures,
+      c .before .before .then8 .ensures,
+      c .before .before .before .then7 .ensures,
+      c .before .before .before .before .then6 .ensures,
+      c .before .before .before .before .before .then5 .ensures,
+      c .before .before .before .before .before .before .then4 .ensures,
+      c .before .before .before .before .before .before .before .then3 .ensures,
+      c .before .before .before .before .before .before .before .before .then2 .ensures,
+      c .before .before .before .before .before .before .before .before .before .then .ensures,
     )
 
 pub checked-spec : {M : Type 1} → statement M
@@ -20,4 +26,10 @@ checked-spec =
     (λ c κs. c .before .before .before .before .pre)
     (λ c κs. c .before .before .before .before .before .pre)
     (λ c κs. c .before .before .before .before .before .before .pre)
+    (λ c κs. c .before .before .before .before .before .before .before .pre)
+    (λ c κs. c .before .before .before .before .before .before .before .before .pre)
+    (λ c κs. c .before .before .before .before .before .before .before .before .before .pre)
+    (λ c κs. c .before .before .before .before .before .before .before .before .before .before .pre)
+    (λ c κs. c .before .before .before .before .before .before .before .before .before .before .before .pre)
+    (λ c κs. c .before .before .before .before .before .before .before .before .before .before .before .before .pre)
     returns)

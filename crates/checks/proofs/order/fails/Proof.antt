@@ -3,23 +3,10 @@ use Rattle.dayfile.specs.declared.records.Position.{Position}
 use Rattle.dayfile.specs.Records.{marksIn, markAt}
 use Rattle.checks.specs.Faults.{badCode, badDate, highMark, offMark, noMark, badPrice, badLots}
 use Rattle.numbers.proofs.Chain.{by-one}
-use native.Mathlib.Omega.{arith}
-use Rattle.checks.proofs.Told.{mark-place, mark-told, clash-place, clash-told}
+use Rattle.checks.proofs.Repeats.{repeated-at, clash-at}
 use borrow.Author.Needs.{needs}
 use Rattle.checks.proofs.order.fails.Statement.{statement}
 use Rattle.checks.proofs.order.fails.Tie as tie
-
-mul-is-some : tie.Need-mul-is-some
-mul-is-some c = let q = mark-place _ (rw (c .enum-told5 .given .1) at (c .before .before .before .before .before .pre)) in omega arith
-
-element-copy-out-is-some : tie.Need-element-copy-out-is-some
-element-copy-out-is-some c = mark-place _ (rw (c .enum-told5 .given .1) at (c .before .before .before .before .before .pre))
-
-mul-wide : tie.Need-mul-wide
-mul-wide c = let q = clash-place _ (rw (c .enum-told8 .given .1) at (c .before .before .before .before .before .pre)) in omega arith
-
-element-copy-out-wide : tie.Need-element-copy-out-wide
-element-copy-out-wide c = clash-place _ (rw (c .enum-told8 .given .1) at (c .before .before .before .before .before .pre))
 
 returns : tie.Need-returns
 returns c =
@@ -39,8 +26,8 @@ returns-4 c =
 
 returns-5 : tie.Need-returns-5
 returns-5 c =
-    let q = c .before .before .enum-told5 .given .1 in
-    rw q (mark-told _ (rw q at (c .before .before .before .before .before .before .before .pre)) (c .is-some .ensures))
+    let q = c .before .enum-told5 .given .1 in
+    rw q (repeated-at _ (rw q at (c .before .before .before .before .before .before .pre)) (c .finds .ensures))
 
 returns-6 : tie.Need-returns-6
 returns-6 c =
@@ -52,8 +39,8 @@ returns-7 c =
 
 returns-8 : tie.Need-returns-8
 returns-8 c =
-    let q = c .before .before .before .enum-told8 .given .1 in
-    rw q (clash-told _ (rw q at (c .before .before .before .before .before .before .before .before .pre)) (c .before .wide .ensures) (c .clashes-below .ensures))
+    let q = c .before .enum-told8 .given .1 in
+    rw q (clash-at _ (rw q at (c .before .before .before .before .before .before .pre)) (c .finds2 .ensures))
 
 returns-9 : tie.Need-returns-9
 returns-9 c =
@@ -80,8 +67,6 @@ fails-spec =
     (λ c κs. search needs)
     (λ c κs. search needs)
     (λ c. search needs)
-    mul-is-some
-    element-copy-out-is-some
     (λ c κs. search needs)
     (λ c. search needs)
     (λ c κs. search needs)
@@ -90,9 +75,6 @@ fails-spec =
     (λ c κs. search needs)
     (λ c κs. search needs)
     (λ c. search needs)
-    mul-wide
-    element-copy-out-wide
-    (λ c κs. search needs)
     (λ c κs. search needs)
     (λ c. search needs)
     (λ c κs. search needs)

@@ -12,10 +12,10 @@ use Rattle.checks.proofs.order.first_failing.Statement.{statement}
 use Rattle.checks.proofs.order.first_failing.Tie as tie
 
 abbrev Inv-loop : tie.InvT-loop
-Inv-loop marks corrections positions contracts numbers c n i₀ i = (i ≤ n) × (first (ruleOf (listsOf marks corrections positions) c .test) i ≡ Nothing)
+Inv-loop marks corrections positions told c n i₀ i = (i ≤ n) × (first (ruleOf (listsOf marks corrections positions) c .test) i ≡ Nothing)
 
 abbrev μ-loop : tie.MeasureT-loop
-μ-loop marks corrections positions contracts numbers c n i₀ i = n - i
+μ-loop marks corrections positions told c n i₀ i = n - i
 
 loop-holds : tie.Need-loop-holds Inv-loop μ-loop
 loop-holds c = (search needs, first-none _)

@@ -1,0 +1,73 @@
+use Prim.Native.Nat.{_≤_, _<_, _-_}
+use mathlib.Core.Path.{_≡_, sym}
+use native.Mathlib.Omega.{arith}
+use lib.ListN.{length}
+use Rattle.numbers.specs.Folds.{first}
+use Rattle.dayfile.specs.Records.{marksIn}
+use Rattle.pairs.specs.Pairs.{contractPair}
+use Rattle.checks.specs.Checks.{repeating}
+use Rattle.numbers.specs.declared.Found.the-variants.{Nothing}
+use Rattle.numbers.proofs.Chain.{at-end}
+use Rattle.numbers.proofs.Searches.{first-none, first-more, first-here}
+use Rattle.checks.proofs.Repeats.{repeats}
+use borrow.Author.Needs.{needs}
+use Rattle.checks.proofs.told.first_repeated.Statement.{statement}
+use Rattle.checks.proofs.told.first_repeated.Tie as tie
+
+abbrev Inv-loop : tie.InvT-loop
+Inv-loop marks contracts n i₀ i = (i ≤ n) × (first (repeating (contractPair (marksIn marks))) i ≡ Nothing)
+
+abbrev μ-loop : tie.MeasureT-loop
+μ-loop marks contracts n i₀ i = n - i
+
+loop-holds : tie.Need-loop-holds Inv-loop μ-loop
+loop-holds c = (search needs, first-none _)
+
+mul-is-some : tie.Need-mul-is-some Inv-loop μ-loop
+mul-is-some c = omega (arith, c .before .before .mark-count .ensures, c .before .before .before .before .pre .few)
+
+element-copy-out-is-some : tie.Need-element-copy-out-is-some Inv-loop μ-loop
+element-copy-out-is-some c = omega (arith, c .before .before .mark-count .ensures, c .before .before .before .before .pre .few)
+
+returns : tie.Need-returns Inv-loop μ-loop
+returns c =
+    let at = c .before .before .before .before .loop in
+    let a = c .before .before .before .before .before .before .before in
+    let n = c .before .before .before .before .before .mark-count .ensures in
+    let inside : at .i < length (marksIn (a .args .marks .now)) = rw (← n) (c .before .before .before .loop-test .taken) in
+    rw (← n) (sym (first-here _ _ (at .i) (c .before .before .before .loop-test .taken) (at .inv .1) (repeats (contractPair (marksIn (a .args .marks .now))) (a .pre) inside (c .before .is-some .ensures)) (c .if1 .taken)))
+
+add-i : tie.Need-add-i Inv-loop μ-loop
+add-i c = omega arith
+
+loop-less : tie.Need-loop-less Inv-loop μ-loop
+loop-less c = omega arith
+
+loop-again : tie.Need-loop-again Inv-loop μ-loop
+loop-again c =
+    let at = c .before .before .before .before .loop in
+    let a = c .before .before .before .before .before .before .before in
+    let inside : at .i < length (marksIn (a .args .marks .now)) = rw (← c .before .before .before .before .before .mark-count .ensures) (c .before .before .before .loop-test .taken) in
+    (omega arith, first-more _ _ (at .inv .1) (repeats (contractPair (marksIn (a .args .marks .now))) (a .pre) inside (c .before .is-some .ensures)) (c .if1 .left))
+
+returns-2 : tie.Need-returns-2 Inv-loop μ-loop
+returns-2 c =
+    let at = c .before .loop in
+    rw (← c .before .before .mark-count .ensures) (at-end (first _) (sym (at .inv .1)) (at .inv .0) (c .loop-test .left))
+
+pub first-repeated-spec : {M : Type 1} → statement M
+first-repeated-spec =
+    tie.close
+    (tie.spec
+    Inv-loop
+    μ-loop
+    (λ c κs. search needs)
+    loop-holds
+    mul-is-some
+    element-copy-out-is-some
+    (λ c κs. search needs)
+    returns
+    add-i
+    loop-less
+    loop-again
+    returns-2)

@@ -1,0 +1,6 @@
+// Records of a section that share a key with an earlier one.
+mod keys;
+mod walks;
+
+pub use keys::Pair;
+pub use walks::earlier;

@@ -1,0 +1,94 @@
+// The last earlier record that makes a pair with a record: one with the same key. The first record of each key stands in a tree, and beside
+// it is kept the last record with this key. The walk of a key starts at one of 4,096 roots, and from a record with another key it goes on
+// to one of the two places below that record. The 32 low bits of a product lead it: the twelve highest choose the root, and one after the
+// other the lowest choose the place below. Two different keys differ in one of the 32 bits, since a product with an odd number can be
+// undone modulo 2^32. So the longest walk goes past 20 records, whatever the keys are.
+use crate::keys::Pair;
+use crate::keys::key;
+use crate::keys::size;
+use dayfile::DayFile;
+ghost use mathlib.Core.Path.{_≡_};
+ghost use Prim.Native.Nat.{_+_, _*_, _<_, _≤_};
+ghost use Rattle.numbers.specs.Trees.{nodeOf, WalkOf, Grown};
+ghost use Rattle.pairs.specs.Pairs.{longest, least, earliersOf};
+ghost use Rattle.pairs.specs.Keys.{roots, scattered, keysOf};
+
+const ROOTS: usize = 4_096;
+
+// The roots, and two places below each record.
+const PLACES: usize = ROOTS + 2 * DayFile::MAX_CORRECTIONS;
+
+// The number that leads the walk of a key.
+fn scatter(key: u32) -> usize
+    ensures { λ r. ⌜ (r ≡ scattered key) × (r < 4294967296) ⌝ }
+{
+    (key as usize) * 2_654_435_761 % 4_294_967_296
+}
+
+// A place of an array as an index.
+fn wide(x: u16) -> usize
+    ensures { λ r. ⌜ r ≡ x ⌝ }
+{
+    x as usize
+}
+
+// The place where the walk of record i ends: it is empty, or holds the first record with the same key.
+fn walk(section: &[u8], p: Pair, place: &[u16; PLACES], i: usize) -> usize
+    requires { ⌜ (Grown (keysOf (now section) p) i (now place)) × (i < longest) ⌝ }
+    ensures { λ r. ⌜ (WalkOf (keysOf (now (section .entry)) p) (now (place .entry)) i r) × (r < roots + 2 * i) ⌝ }
+{
+    let x = key(section, p, i);
+    let mut rest = scatter(x);
+    let mut at = rest / 1_048_576;
+    let mut k = wide(place[at]);
+    while k != 0 {
+        let j = k - 1;
+        if key(section, p, j) == x {
+            return at;
+        }
+        at = ROOTS + 2 * j + rest % 2;
+        rest = rest / 2;
+        k = wide(place[at]);
+    }
+    at
+}
+
+// The record that a place holds, or i where it is empty.
+fn node(k: usize, i: usize) -> usize
+    requires { ⌜ k ≤ i ⌝ }
+    ensures { λ r. ⌜ (r ≡ nodeOf k i) × (r ≤ i) ⌝ }
+{
+    if k == 0 { i } else { k - 1 }
+}
+
+// n, or the most records that are looked at.
+fn at_most(n: usize) -> usize
+    ensures { λ r. ⌜ (r ≡ least longest n) × (r ≤ longest) ⌝ }
+{
+    if n < DayFile::MAX_CORRECTIONS {
+        n
+    } else {
+        DayFile::MAX_CORRECTIONS
+    }
+}
+
+// For each record of a section, one more than the index of the last earlier record that makes a pair with it, or 0. Records behind the
+// first 512 are not looked at.
+pub fn earlier(section: &[u8], p: Pair) -> [u16; DayFile::MAX_CORRECTIONS]
+    ensures { λ r. ⌜ r ≡ earliersOf (now (section .entry)) p ⌝ }
+{
+    let n = at_most(size(section, p));
+    let mut place = [0u16; PLACES];
+    let mut last = [0u16; DayFile::MAX_CORRECTIONS];
+    let mut found = [0u16; DayFile::MAX_CORRECTIONS];
+    let mut i = 0;
+    while i < n {
+        let at = walk(section, p, &place, i);
+        let j = node(wide(place[at]), i);
+        place[at] = (j + 1) as u16;
+        found[i] = last[j];
+        i += 1;
+        last[j] = i as u16;
+    }
+    found
+}
