@@ -91,7 +91,7 @@ module _ (f : List ℕ) {d : DayFile} (o : openedOf fileLimits f ≡ File d) whe
       let n = h .whole in
       record {
         limited = h .limited;
-        counts = sym (counts-by d (marks-sized f d h) (corrections-sized f d h) (positions-sized f d h));
+        counts = sym (counts-by d (marks-sized f d (h .whole)) (corrections-sized f d (h .whole)) (positions-sized f d (h .whole)));
         marks = length-part headerSize (markSize * d .marks) f (omega arith);
         corrections = length-part (correctionsStart d) (correctionSize * d .corrections) f (omega arith);
         positions = length-part (positionsStart d) (positionSize * d .positions) f (omega arith);

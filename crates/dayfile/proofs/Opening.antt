@@ -2,7 +2,8 @@
 use mathlib.Core.Path.{_≡_, refl}
 use mathlib.Core.Bool.{Bool, true, false, cond, _&&_}
 use mathlib.Core.List.{List}
-use Prim.Native.Nat.{ℕ, _≤_}
+use mathlib.Core.Logic.{_⊎_, inl, inr}
+use Prim.Native.Nat.{ℕ, _≤_, _<_}
 use native.Mathlib.Omega.{arith}
 use lib.Dec.{leb, ltb, eqb}
 use lib.ListN.{length}
@@ -68,3 +69,19 @@ unfolding countsOf
 laid-out f p =
     let (h, e) = opens fileLimits f p in
     rw (← e) (record { limited = record { marks = h .marks-fit; corrections = h .corrections-fit; positions = h .positions-fit }; whole = h .ends-at })
+
+-- no file is longer than one with as many records as the limits allow
+pub too-long : (f : List ℕ) → 58392 < length f → (openedOf fileLimits f ≡ Refused 2) ⊎ (openedOf fileLimits f ≡ Refused 3)
+unfolding openedOf countsOf
+too-long f h = go (withinLimits fileLimits (countsOf f)) refl (asLaidOut f (countsOf f)) refl
+  where
+    whole-header : ltb (length f) headerSize ≡ false
+    whole-header = le-ltb (length f) headerSize (omega arith)
+
+    go : (inside : Bool) → withinLimits fileLimits (countsOf f) ≡ inside → (laid : Bool) → asLaidOut f (countsOf f) ≡ laid
+        → (openedOf fileLimits f ≡ Refused 2) ⊎ (openedOf fileLimits f ≡ Refused 3)
+    go false p laid q = inl (rw (whole-header, p))
+    go true p false q = inr (rw (whole-header, p, q))
+    go true p true q =
+        let g = laid-of fileLimits f whole-header p q in
+        absurd (omega (arith, g .ends-at, g .marks-fit, g .corrections-fit, g .positions-fit))

@@ -15,24 +15,25 @@ use Rattle.numbers.proofs.Sections.{size-is, length-part}
 sized : {R : Type 0} (f : List ℕ → R) (w a k n : ℕ) (s : List ℕ) → a + k ≤ length s → k / w ≡ n → length (map f (recordsOf w (part a k s))) ≡ n
 sized f w a k n s h e = size-is f w (part a k s) ∙ rw (length-part a k s h) e
 
-module _ (s : List ℕ) (d : DayFile) (h : LaidOut s d) where
+-- the lists of a file that has the length of the layout
+module _ (s : List ℕ) (d : DayFile) (whole : length s ≡ lengthOf d) where
   pub marks-sized : length (listsIn s d .marks) ≡ d .marks
-  marks-sized = sized markOf markSize headerSize (markSize * d .marks) (d .marks) s (omega (arith, h .whole)) (omega arith)
+  marks-sized = sized markOf markSize headerSize (markSize * d .marks) (d .marks) s (omega (arith, whole)) (omega arith)
 
   pub corrections-sized : length (listsIn s d .corrections) ≡ d .corrections
-  corrections-sized = sized correctionOf correctionSize (correctionsStart d) (correctionSize * d .corrections) (d .corrections) s (omega (arith, h .whole)) (omega arith)
+  corrections-sized = sized correctionOf correctionSize (correctionsStart d) (correctionSize * d .corrections) (d .corrections) s (omega (arith, whole)) (omega arith)
 
   pub positions-sized : length (listsIn s d .positions) ≡ d .positions
-  positions-sized = sized positionOf positionSize (positionsStart d) (positionSize * d .positions) (d .positions) s (omega (arith, h .whole)) (omega arith)
+  positions-sized = sized positionOf positionSize (positionsStart d) (positionSize * d .positions) (d .positions) s (omega (arith, whole)) (omega arith)
 
-  -- the lists of a file that opens are within the limits
-  pub small : Small (listsIn s d)
-  small =
-      record {
-        marks = rw marks-sized (h .limited .marks);
-        corrections = rw corrections-sized (h .limited .corrections);
-        positions = rw positions-sized (h .limited .positions);
-      }
+-- those of a file that opens are within the limits
+pub small : (s : List ℕ) (d : DayFile) → LaidOut s d → Small (listsIn s d)
+small s d h =
+    record {
+      marks = rw (marks-sized s d (h .whole)) (h .limited .marks);
+      corrections = rw (corrections-sized s d (h .whole)) (h .limited .corrections);
+      positions = rw (positions-sized s d (h .whole)) (h .limited .positions);
+    }
 
 -- the parts of a file between its offsets are its sections
 pub parts-are : (s : List ℕ) (d : DayFile) {a b e : ℕ} → a ≡ correctionsStart d → b ≡ positionsStart d → e ≡ lengthOf d

@@ -8,7 +8,7 @@ use Rattle.ffi.specs.declared.Outcome.{Outcome}
 -- the answer of a call on one contract
 abbrev pub quoteOf : calls.Answer → Quote
 quoteOf (calls.given n) = record { refused = 0; number = n }
-quoteOf (calls.refused k) = record { refused = k; number = 0 }
+quoteOf (calls.refused k i) = record { refused = k; number = 0 }
 
 -- the answer to a day file
 abbrev pub outcomeOf : settling.Answer → Outcome

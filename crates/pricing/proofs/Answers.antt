@@ -17,7 +17,7 @@ use Rattle.pricing.specs.declared.contract.Judged.{Judged}
 use Rattle.pricing.specs.declared.contract.Judged.the-variants.{Passed, Failed}
 
 -- two answers that differ
-pub not-given : {A : Type 0} {k n : ℕ} → refused k ≡ given n → A
+pub not-given : {A : Type 0} {k i n : ℕ} → refused k i ≡ given n → A
 not-given e = absurd (let z : _≡_ {A = ℕ} 0 1 = cc in omega arith)
 
 not-passed : {A : Type 0} {k : ℕ} → Failed k ≡ Passed → A

@@ -93,7 +93,7 @@ module _ (code : Code) (p : ℕ) where
 
 -- the refusal that a decision says, else the answer a
 abbrev answerBy : Decision → Answer → Answer
-answerBy (met k i) a = refused k
+answerBy (met k i) a = refused k i
 answerBy clear a = a
 
 abbrev decide : Found → ℕ → List Fault → Decision
@@ -160,29 +160,19 @@ by-bracket (At q) p = by-terms (q .terms)
 
 -- a call with these checks, whose answer goes by their decision
 module _ (code : Code) (p : ℕ) (faults : List Fault) (answer : Answer) (n : ℕ) (by : answer ≡ answerBy (decide (find code) p faults) (given n)) where
-  refused-by : (d : Decision) {k : ℕ} → answerBy d (given n) ≡ refused k → (i : ℕ) × (d ≡ met k i)
-  refused-by (met k i) e = (i, cc)
+  refused-by : (d : Decision) {k i : ℕ} → answerBy d (given n) ≡ refused k i → d ≡ met k i
+  refused-by (met k i) e = cc
   refused-by clear e = absurd (let z : _≡_ {A = ℕ} 0 1 = cc in omega arith)
 
   given-by : (d : Decision) {m : ℕ} → answerBy d (given n) ≡ given m → d ≡ clear
   given-by (met k i) e = absurd (let z : _≡_ {A = ℕ} 0 1 = cc in omega arith)
   given-by clear e = refl
 
-  refused-exactly : {k : ℕ} → (answer ≡ refused k) ↔ Decides faultNumber (Holds code p) faults k 0
-  refused-exactly {k} = (
-    (λ e. let (i, g) = refused-by (decide (find code) p faults) (sym by ∙ e) in let d = met-exactly faultNumber (finding (find code) p) (finds code p) faults .0 g in first-record d),
+  refused-exactly : {k i : ℕ} → (answer ≡ refused k i) ↔ Decides faultNumber (Holds code p) faults k i
+  refused-exactly = (
+    (λ e. met-exactly faultNumber (finding (find code) p) (finds code p) faults .0 (refused-by (decide (find code) p faults) (sym by ∙ e))),
     (λ d. by ∙ ap (λ x. answerBy x (given n)) (met-exactly faultNumber (finding (find code) p) (finds code p) faults .1 d)),
   )
-    where
-      zero-at : (c : Fault) (i : ℕ) → Holds code p c i → i ≡ 0
-      zero-at NoProduct i h = h .0
-      zero-at NoBond i h = h .0
-      zero-at AboveLimit i h = h .0
-      zero-at OffTick i h = h .0
-      zero-at NextAboveLimit i h = h .0
-
-      first-record : {i : ℕ} → Decides faultNumber (Holds code p) faults k i → Decides faultNumber (Holds code p) faults k 0
-      first-record {i} d = rw (← (zero-at (d .condition) i (d .here))) d
 
   given-exactly : ((m : ℕ) × (answer ≡ given m)) ↔ Clear (Holds code p) faults
   given-exactly = (
@@ -191,7 +181,7 @@ module _ (code : Code) (p : ℕ) (faults : List Fault) (answer : Answer) (n : �
   )
 
 exactly : (code : Code) (p : ℕ) (faults : List Fault) (answer : Answer) (n : ℕ) → answer ≡ answerBy (decide (find code) p faults) (given n) → Exactly code p faults answer
-exactly code p faults answer n by = record { turned = λ k. refused-exactly code p faults answer n by; answers = given-exactly code p faults answer n by }
+exactly code p faults answer n by = record { turned = λ k i. refused-exactly code p faults answer n by; answers = given-exactly code p faults answer n by }
 
 module _ (code : Code) (p : ℕ) where
   pub value-exactly : Exactly code p valueFaults (valueOf code p)

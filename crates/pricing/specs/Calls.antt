@@ -17,24 +17,24 @@ use Rattle.pricing.specs.declared.contract.Judged.the-variants.{Passed, 
 use Rattle.pricing.specs.declared.contract.Priced.{Priced}
 use Rattle.pricing.specs.declared.contract.Priced.the-variants as priced
 
--- the answer of a call: a number, or the number of the check that turns it away
+-- the answer of a call: a number, or the number of the check that turns it away and a record's index
 pub data Answer : Type 0 where
   given : ℕ → Answer
-  refused : ℕ → Answer
+  refused : ℕ → ℕ → Answer
 
--- what an answer of the code says
+-- what an answer of the code says; a call on one contract has no records, and its index is 0
 abbrev pub said : Priced → Answer
 said (priced.Given n) = given n
-said (priced.Refused k) = refused k
+said (priced.Refused k) = refused k 0
 
 -- the answer a, unless check k fails
 abbrev pub check : ℕ → Bool → Answer → Answer
-check k passed a = cond passed a (refused k)
+check k passed a = cond passed a (refused k 0)
 
 -- check 4, then the answer of the product
 abbrev pub ofProduct : Found → (Product → Answer) → Answer
 ofProduct (At q) f = f q
-ofProduct Missing f = refused 4
+ofProduct Missing f = refused 4 0
 
 -- checks 6 and 7 of a price
 unfoldable pub judged : ℕ → ℕ → Judged
@@ -43,7 +43,7 @@ judged tick p = cond (leb p priceLimit) (cond (eqb (p % tick) 0) Passed (Failed 
 -- the answer a to a price that passes
 abbrev pub after : Judged → Answer → Answer
 after Passed a = a
-after (Failed k) a = refused k
+after (Failed k) a = refused k 0
 
 -- the value of one contract in cents
 unfoldable pub valueOf : Code → ℕ → Answer
@@ -58,9 +58,9 @@ tickValueOf code p =
 
 -- the answer of a bond's half coupon and half years; other terms are refused with 4
 abbrev pub ofBond : Terms → (ℕ → ℕ → Answer) → Answer
-ofBond (Bill face days) f = refused 4
+ofBond (Bill face days) f = refused 4 0
 ofBond (Bond face c n) f = f c n
-ofBond (CashRate cents) f = refused 4
+ofBond (CashRate cents) f = refused 4 0
 
 -- a bond's bracket, in units of the ladder
 unfoldable pub bracketOf : Code → ℕ → Answer

@@ -38,7 +38,7 @@ figures =
     ∷ (valueAt IR 950_100 gives given 98_784_544)
     ∷ (tickValueAt IR 950_000 gives given 2_406)
     ∷ (valueAt IR 1_000_000 gives given 100_000_000)
-    ∷ (tickValueAt IR 1_000_000 gives refused 15)
+    ∷ (tickValueAt IR 1_000_000 gives refused 15 0)
     ∷ (valueAt IR 0 gives given 80_219_780)
     ∷ (valueAt IB 950_000 gives given 23_427_000)
     ∷ (tickValueAt IB 950_000 gives given 1_233)
@@ -53,8 +53,8 @@ figures =
     ∷ (valueAt YT 1_000_000 gives given 11_800_000)
     ∷ (valueAt XT 1_000_000 gives given 16_000_000)
     ∷ (valueAt XX 1_000_000 gives given 9_000_000)
-    ∷ (valueAt IR 950_050 gives refused 7)
-    ∷ (valueAt IR 1_000_001 gives refused 6)
+    ∷ (valueAt IR 950_050 gives refused 7 0)
+    ∷ (valueAt IR 1_000_001 gives refused 6 0)
     ∷ []
 
 -- the definitions give each figure

@@ -28,4 +28,4 @@ checkOf code p = checkIn (find code) p
 -- the answer for the terms and the tick of the product, where the three pass
 abbrev pub ofChecked : Checked → (Terms → ℕ → Answer) → Answer
 ofChecked (checked.Product t tick) f = f t tick
-ofChecked (checked.Refused k) f = refused k
+ofChecked (checked.Refused k) f = refused k 0

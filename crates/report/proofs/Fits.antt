@@ -14,9 +14,10 @@ use Rattle.pricing.specs.declared.products.Currency.the-variants.{Aud, Nzd}
 use Rattle.numbers.proofs.Counting.{count-small}
 use Rattle.dayfile.specs.Limits.{fileLimits}
 use Rattle.dayfile.specs.Records.{Lists, positionAt, markSize, positionSize}
-use Rattle.checks.specs.Checks.{numberPair, repeating, ruleOf, numberOf, verdictOf}
+use Rattle.pairs.specs.Pairs.{numberPair}
+use Rattle.checks.specs.Checks.{repeating, numberOf, verdictOf}
 use Rattle.dayfile.specs.Layout.{openedOf, listsIn, listsOfFile, countsOf, headerSize, positionsStart, markBytes, positionBytes}
-use Rattle.settlement.specs.Conditions.{Reason, Short, Counts, Layout, Record, Room, Holds, reasonNumber}
+use Rattle.settlement.specs.Conditions.{Reason, Short, Counts, Layout, Record, Room, Holds, reasonNumber, sizeOf}
 use Rattle.checks.specs.Judging.{resentOf}
 use Rattle.settlement.specs.Settling.{refused, accept, refuse, listsPlan, planOf, answerBy, answerOf, amountOf, changeIn, totalOf, shareOf, totals}
 use Rattle.dayfile.specs.Steps.{Small, LaidOut}
@@ -98,7 +99,7 @@ number-small (Record c) = of-check c
     of-check check.Lots = omega arith
 number-small Room = omega arith
 
-size-small : (l : Lists) → Small l → (c : Check) → ruleOf l c .size ≤ fileLimits .positions
+size-small : (l : Lists) → Small l → (c : Check) → sizeOf l c ≤ fileLimits .positions
 size-small l h check.Code = omega (arith, h .marks)
 size-small l h check.Date = omega (arith, h .marks)
 size-small l h check.PriceLimit = omega (arith, h .marks)

@@ -14,9 +14,10 @@ use Rattle.dayfile.specs.Limits.{yearLimit, lotsLimit}
 use Rattle.dayfile.specs.Records.{Lists, markAt, correctionAt, positionAt}
 use Rattle.checks.specs.Products.{aboveLimit, quoted}
 use Rattle.numbers.specs.Integers.{isZero}
-use Rattle.checks.specs.Faults.{offTick, sameContract, clashing}
-use Rattle.checks.specs.Checks.{ruleOf, contractPair, clashPair}
-use Rattle.settlement.specs.Conditions.{OffTick, SameContract, Clash, Wrong}
+use Rattle.pairs.specs.Pairs.{sameContract, contractPair}
+use Rattle.checks.specs.Faults.{offTick, clashing}
+use Rattle.checks.specs.Checks.{ruleOf, clashPair}
+use Rattle.settlement.specs.Conditions.{OffTick, SameContract, Clash, Wrong, sizeOf}
 use Rattle.dayfile.specs.declared.records.Mark.{Mark}
 use Rattle.dayfile.specs.declared.records.Correction.{Correction}
 use Rattle.checks.specs.declared.order.Check.{Check}
@@ -83,3 +84,16 @@ module _ (l : Lists) where
   agrees check.CorrectionClash i = tells-some (clashPair (l .corrections) i) i (λ j. clash (correctionAt (l .corrections) i) (correctionAt (l .corrections) j))
   agrees check.PositionMark i = tells-le (length (l .marks)) (positionAt (l .positions) i .mark)
   agrees check.Lots i = lots (positionAt (l .positions) i .lots)
+
+  -- and it looks at the records of its section
+  pub sizes : (c : Check) → ruleOf l c .size ≡ sizeOf l c
+  sizes check.Code = refl
+  sizes check.Date = refl
+  sizes check.PriceLimit = refl
+  sizes check.Tick = refl
+  sizes check.MarkRepeated = refl
+  sizes check.CorrectionMark = refl
+  sizes check.CorrectionPrice = refl
+  sizes check.CorrectionClash = refl
+  sizes check.PositionMark = refl
+  sizes check.Lots = refl

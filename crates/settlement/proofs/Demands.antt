@@ -1,9 +1,10 @@
--- What is promised of a day file's settlement. Open this file first: each demand of document 01 is stated here in the terms of specs/, and its
--- argument stands in the file it cites. `answerOf l f places` is the answer to the file f with a slice of so many places, and `amountsAfter l f a`
--- the slice afterwards that was a before: the contract of `settle` says that its answer and its slice are these, for the limits `fileLimits`.
+-- What is promised of a day file's settlement. Open this file first: each of the three demands, which document 01 cites by number, is stated here
+-- in the terms of specs/, and its argument stands in the file it cites. `answerOf l f places` is the answer to the file f with a slice of so many
+-- places, and `amountsAfter l f a` the slice afterwards that was a before: the contract of `settle` says that its answer and its slice are these,
+-- for the limits `fileLimits`.
 use mathlib.Core.Path.{_≡_, refl, sym, _∙_}
-use mathlib.Core.List.{List}
-use mathlib.Core.Logic.{_↔_}
+use mathlib.Core.List.{List, [], _∷_, map}
+use mathlib.Core.Logic.{_⊎_, inl, inr, ⊎-elim, _↔_}
 use Prim.Native.Nat.{ℕ, _+_, _*_, _-_, _≤_, _<_}
 use lib.Dec.{eqb}
 use lib.IntN.{ℤ, pos, natAbs, _-ℤ_, _*ℤ_, +ℤ-invr, *ℤ-zero}
@@ -17,24 +18,25 @@ use Rattle.pricing.specs.declared.products.Currency.the-variants.{Aud, Nzd}
 use Rattle.numbers.specs.Bytes.{Bytes, u32At}
 use Rattle.numbers.specs.Folds.{sum, count, some}
 use Rattle.dayfile.specs.Limits.{Limits, fileLimits}
-use Rattle.dayfile.specs.Records.{Lists, correctionAt}
-use Rattle.dayfile.specs.Layout.{listsOfFile}
+use Rattle.dayfile.specs.Records.{correctionAt}
+use Rattle.dayfile.specs.Layout.{countsOf, listsOfFile}
 use Rattle.settlement.specs.Products.{currencyOf}
-use Rattle.checks.specs.Checks.{verdictOf}
-use Rattle.settlement.specs.Conditions.{TurnedAway, NotTurnedAway}
+use Rattle.settlement.specs.Conditions.{reasonNumber, reasons, TurnedAway, NotTurnedAway}
 use Rattle.settlement.specs.Prices.{finalOf, FinalPrice, AllIn}
 use Rattle.checks.specs.Judging.{resentOf}
-use Rattle.settlement.specs.Settling.{keepOf, positionIn, markIn, previousIn, finalIn, Answer, settled, refused, totals, answerOf, amountsAfter}
+use Rattle.settlement.specs.Settling.{keepOf, positionIn, markIn, previousIn, finalIn, Answer, settled, refused, totals, planOf, answerOf, amountsAfter}
 use Rattle.settlement.specs.Resend.{SentAgain, correctionRecords, Resent}
 use Rattle.dayfile.specs.declared.records.Mark.{Mark}
 use Rattle.dayfile.specs.declared.records.Correction.{Correction}
-use Rattle.checks.specs.declared.order.Verdict.the-variants.{Passed}
+use Rattle.dayfile.proofs.Opening as opening
+use Rattle.dayfile.proofs.Parts.{marks-sized, corrections-sized, positions-sized}
 use Rattle.settlement.proofs.Pricing as pricing
 use Rattle.settlement.proofs.Corrections as corrections
 use Rattle.numbers.proofs.Counting as counting
 use Rattle.settlement.proofs.FinalPrices as prices
 use Rattle.settlement.proofs.Values.{amount-valued}
 use Rattle.numbers.proofs.Signs.{difference-is, keeps-above, keeps-below}
+use Rattle.settlement.proofs.Accepted.{settled-accepted}
 use Rattle.settlement.proofs.Slices as slices
 use Rattle.settlement.proofs.Refusals.{refused-exactly, accepted-exactly}
 use Rattle.settlement.proofs.Resending as resending
@@ -64,6 +66,24 @@ demand-2 l f places = refused-exactly l f places
 -- The file is accepted, with the number of its positions, both totals and the resent count, exactly where no condition holds at any record.
 pub demand-2-accepted : (l : Limits) (f : List ℕ) (places : ℕ) → (answerOf l f places ≡ totals (listsOfFile f)) ↔ NotTurnedAway l f places
 demand-2-accepted l f places = accepted-exactly l f places
+
+-- The checks stand in the order of their numbers.
+pub numbers-in-order : map reasonNumber reasons ≡ 1 ∷ 2 ∷ 3 ∷ 4 ∷ 5 ∷ 6 ∷ 7 ∷ 8 ∷ 9 ∷ 10 ∷ 11 ∷ 12 ∷ 13 ∷ 14 ∷ []
+numbers-in-order = refl
+
+-- A file that is longer than one with as many records as the limits allow is refused with 2 or 3.
+pub too-long : (f : List ℕ) (places : ℕ) → 58392 < length f → (answerOf fileLimits f places ≡ refused 2 0) ⊎ (answerOf fileLimits f places ≡ refused 3 0)
+unfolding answerOf planOf
+too-long f places h = ⊎-elim (λ e. inl (rw e)) (λ e. inr (rw e)) (opening.too-long f h)
+
+-- N is the header's count of positions, and the lists of an accepted file have as many records as its header counts.
+pub header-counts : (l : Limits) (f : List ℕ) (a : List ℤ) {n k : ℕ} {aud nzd : ℤ} → answerOf l f (length a) ≡ settled n aud nzd k
+    → (n ≡ u32At f 16) × (length (listsOfFile f .positions) ≡ n) × (length (listsOfFile f .marks) ≡ u32At f 0) × (length (listsOfFile f .corrections) ≡ u32At f 8)
+unfolding countsOf
+header-counts l f a e =
+    let whole = slices.accepted l f a e .laid .ends-at in
+    let n = slices.counted l f a e in
+    (sym n ∙ positions-sized f (countsOf f) whole, n, marks-sized f (countsOf f) whole, corrections-sized f (countsOf f) whole)
 
 -- ---- the third demand
 
@@ -126,16 +146,18 @@ totals-are-sums l f a e = (slices.total-stands l f a e Aud, slices.total-stands 
 pub final-price-is : (ms : List Mark) (cs : List Correction) (m : ℕ) → FinalPrice ms cs m (finalOf ms cs m)
 final-price-is ms cs m = prices.final-price-is ms cs m
 
--- Among three lists that pass it is the only such price.
-pub one-final-price : (ls : Lists) → verdictOf ls ≡ Passed → (m p : ℕ) → FinalPrice (ls .marks) (ls .corrections) m p → p ≡ finalOf (ls .marks) (ls .corrections) m
-one-final-price ls passed m p d =
-    prices.one-final (ls .marks) (ls .corrections) (corrections.apart (ls .marks) (ls .positions) (ls .corrections) passed) m d (prices.final-price-is (ls .marks) (ls .corrections) m)
+-- In an accepted file it is the only such price, and depends only on which corrections occur, not on their order or number.
+module _ (l : Limits) (f : List ℕ) (places : ℕ) {n k : ℕ} {aud nzd : ℤ} (e : answerOf l f places ≡ settled n aud nzd k) where
+  pub one-final-price : (m p : ℕ) → FinalPrice (listsOfFile f .marks) (listsOfFile f .corrections) m p → p ≡ finalOf (listsOfFile f .marks) (listsOfFile f .corrections) m
+  one-final-price m p d =
+      let ls = listsOfFile f in
+      prices.one-final (ls .marks) (ls .corrections) (corrections.apart (ls .marks) (ls .positions) (ls .corrections) (settled-accepted l f places e .passed)) m d (prices.final-price-is (ls .marks) (ls .corrections) m)
 
--- It depends only on which corrections occur, and not on their order or number.
-pub same-corrections-same-prices : (ls : Lists) → verdictOf ls ≡ Passed → (ds : List Correction) → AllIn (ls .corrections) ds → AllIn ds (ls .corrections)
-    → finalOf (ls .marks) ds ≡ finalOf (ls .marks) (ls .corrections)
-same-corrections-same-prices ls passed ds to back =
-    sym (prices.same-finals (ls .marks) (ls .corrections) ds to back (corrections.apart (ls .marks) (ls .positions) (ls .corrections) passed))
+  pub same-corrections-same-prices : (ds : List Correction) → AllIn (listsOfFile f .corrections) ds → AllIn ds (listsOfFile f .corrections)
+      → finalOf (listsOfFile f .marks) ds ≡ finalOf (listsOfFile f .marks) (listsOfFile f .corrections)
+  same-corrections-same-prices ds to back =
+      let ls = listsOfFile f in
+      sym (prices.same-finals (ls .marks) (ls .corrections) ds to back (corrections.apart (ls .marks) (ls .positions) (ls .corrections) (settled-accepted l f places e .passed)))
 
 -- The resent count and the number of different numbers, which are all below top, make up the length of the list.
 pub resent-and-different : (cs : List Correction) (top : ℕ) → ((i : ℕ) → i < length cs → correctionAt cs i .number < top)

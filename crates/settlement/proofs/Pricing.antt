@@ -29,7 +29,7 @@ use Rattle.numbers.proofs.Truth.{Tells, not-both, tells-not, tells-divides}
 
 by-answer : (a : Code) (p : ℕ) (x : Answer) → valueOf a p ≡ x → orZero x ≤ valueCap
 by-answer a p (given n) e = pricing.value-cap a p e
-by-answer a p (refused k) e = omega arith
+by-answer a p (refused k i) e = omega arith
 
 pub worth-bound : (a : Code) (p : ℕ) → worthOf a p ≤ valueCap
 unfolding worthOf

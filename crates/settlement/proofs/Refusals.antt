@@ -12,7 +12,7 @@ use Rattle.numbers.specs.Bytes.{u32At}
 use Rattle.dayfile.specs.Limits.{Limits}
 use Rattle.dayfile.specs.Layout.{headerSize, countsOf, correctionsStart, positionsStart, lengthOf, withinLimits, asLaidOut, openedOf, listsOfFile}
 use Rattle.checks.specs.Checks.{ruleOf, findingOf, numberOf, order, failedAt, thenCheck, verdictOf}
-use Rattle.settlement.specs.Conditions.{Reason, Short, Counts, Layout, Record, Room, Holds, reasonNumber, reasons, TurnedAway, NotTurnedAway}
+use Rattle.settlement.specs.Conditions.{sizeOf, Reason, Short, Counts, Layout, Record, Room, Holds, reasonNumber, reasons, TurnedAway, NotTurnedAway}
 use Rattle.settlement.specs.Settling.{settled, refused, totals, Plan, accept, refuse, listsPlan, planFor, openedPlan, planOf, answerBy, answerOf}
 use Rattle.dayfile.specs.declared.file.Opened.the-variants.{File, Refused}
 use Rattle.numbers.specs.declared.Found.{Found}
@@ -21,7 +21,7 @@ use Rattle.checks.specs.declared.order.Check.{Check}
 use Rattle.checks.specs.declared.order.Verdict.the-variants.{Passed, Failed}
 use Rattle.numbers.proofs.Order.{Finds, finds-whole, finds-unless, first-finds, Decision, met, clear, pick, decision, met-exactly, clear-exactly}
 use Rattle.numbers.proofs.Truth.{Tells, tells-as, tells-not, tells-either, tells-lt, tells-above, tells-eq}
-use Rattle.settlement.proofs.Agreement.{agrees}
+use Rattle.settlement.proofs.Agreement.{agrees, sizes}
 
 -- ---- alternatives, the other way round
 
@@ -76,7 +76,7 @@ module _ (l : Limits) (f : List ℕ) (places : ℕ) where
   finds Short = finds-whole (ltb (length f) headerSize) (tells-lt (length f) headerSize)
   finds Counts = finds-unless (withinLimits l (countsOf f)) over-limit
   finds Layout = finds-unless (asLaidOut f (countsOf f)) off-layout
-  finds (Record c) = first-finds (ruleOf (listsOfFile f) c .test) (agrees (listsOfFile f) c) (ruleOf (listsOfFile f) c .size)
+  finds (Record c) = rw (sizes (listsOfFile f) c) (first-finds (ruleOf (listsOfFile f) c .test) (agrees (listsOfFile f) c) (sizeOf (listsOfFile f) c))
   finds Room = finds-whole (ltb places (length (listsOfFile f .positions))) (tells-lt places (length (listsOfFile f .positions)))
 
   -- ---- the plan by a list of checks

@@ -89,7 +89,7 @@ module _ (f : List ℕ) (o : openedOf fileLimits f ≡ File (countsOf f)) (ds : 
   longer : length ds ≡ countsOf f .corrections + copies
   longer =
       let a = length-map (correctionRecords f) correctionOf in
-      let b = corrections-sized f (countsOf f) (laid-out f o) in
+      let b = corrections-sized f (countsOf f) (laid-out f o .whole) in
       let k = sent-length sent in
       omega arith
 

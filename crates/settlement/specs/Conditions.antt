@@ -17,7 +17,7 @@ use Rattle.numbers.specs.Bytes.{u32At}
 use Rattle.dayfile.specs.Limits.{Limits, yearLimit, lotsLimit}
 use Rattle.dayfile.specs.Records.{Lists, markAt, correctionAt, positionAt}
 use Rattle.dayfile.specs.Layout.{headerSize, countsOf, correctionsStart, positionsStart, lengthOf, listsOfFile}
-use Rattle.checks.specs.Checks.{ruleOf, numberOf, order}
+use Rattle.checks.specs.Checks.{numberOf, order}
 use Rattle.dayfile.specs.declared.records.Mark.{Mark}
 use Rattle.dayfile.specs.declared.records.Correction.{Correction}
 use Rattle.checks.specs.declared.order.Check.{Check}
@@ -65,6 +65,19 @@ Wrong l check.PositionMark i = length (l .marks) ≤ positionAt (l .positions) i
 -- 13: a position's lots are 0, below −1,000,000 or above 1,000,000
 Wrong l check.Lots i = let p = positionAt (l .positions) i in (p .lots ≡ pos 0) ⊎ (p .lots <ℤ negℤ (pos lotsLimit)) ⊎ (pos lotsLimit <ℤ p .lots)
 
+-- how many records the section of a check has
+abbrev pub sizeOf : Lists → Check → ℕ
+sizeOf l check.Code = length (l .marks)
+sizeOf l check.Date = length (l .marks)
+sizeOf l check.PriceLimit = length (l .marks)
+sizeOf l check.Tick = length (l .marks)
+sizeOf l check.MarkRepeated = length (l .marks)
+sizeOf l check.CorrectionMark = length (l .corrections)
+sizeOf l check.CorrectionPrice = length (l .corrections)
+sizeOf l check.CorrectionClash = length (l .corrections)
+sizeOf l check.PositionMark = length (l .positions)
+sizeOf l check.Lots = length (l .positions)
+
 -- ---- all fourteen
 
 pub data Reason : Type 0 where
@@ -85,7 +98,7 @@ Holds l f places Counts i =
 Holds l f places Layout i =
     (i ≡ 0) × ((u32At f 4 ≢ headerSize) ⊎ (u32At f 12 ≢ correctionsStart (countsOf f)) ⊎ (u32At f 20 ≢ positionsStart (countsOf f)) ⊎ (length f ≢ lengthOf (countsOf f)))
 -- 4 to 13
-Holds l f places (Record c) i = (i < ruleOf (listsOfFile f) c .size) × Wrong (listsOfFile f) c i
+Holds l f places (Record c) i = (i < sizeOf (listsOfFile f) c) × Wrong (listsOfFile f) c i
 -- 14: the amounts slice has fewer than N places
 Holds l f places Room i = (i ≡ 0) × (places < length (listsOfFile f .positions))
 

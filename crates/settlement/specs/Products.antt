@@ -16,7 +16,7 @@ currencyIn Missing = Aud
 -- the number of an answer, 0 where the call is refused
 abbrev pub orZero : Answer → ℕ
 orZero (given n) = n
-orZero (refused k) = 0
+orZero (refused k i) = 0
 
 -- the product's currency
 unfoldable pub currencyOf : Code → Currency

@@ -18,7 +18,7 @@ use Rattle.pricing.proofs.contract.tick_value.Tie as tie
 abbrev answer : ℕ → Terms → ℕ → Answer
 answer p t tick = check 15 (leb (p + tick) priceLimit) (given (valueBy t (p + tick) - valueBy t p))
 
-above : (p : ℕ) (t : Terms) (tick : ℕ) → priceLimit < p + tick → refused 15 ≡ answer p t tick
+above : (p : ℕ) (t : Terms) (tick : ℕ) → priceLimit < p + tick → refused 15 0 ≡ answer p t tick
 above p t tick h = rw (lt-leb (p + tick) priceLimit h)
 
 within : (p : ℕ) (t : Terms) (tick : ℕ) → p + tick ≤ priceLimit → given (valueBy t (p + tick) - valueBy t p) ≡ answer p t tick
