@@ -1,7 +1,7 @@
 """A calculator for the value of one contract, in exact fractions, that shares nothing with the program it tests.
 
-It is written from the build description, document 01: "Prices and products", "Value of one contract" and "Why a call is
-turned away". Every rounding is floor(f + 1/2) of a Fraction.
+It is written from document 01: "Prices and products", "Value of one contract" and "Why a call is turned away". Every
+rounding is floor(f + 1/2) of a Fraction.
 """
 import math
 from dataclasses import dataclass
@@ -120,7 +120,7 @@ def value_at(terms, price):
 
 @lru_cache(maxsize=None)
 def exact_bracket(bond, price):
-    """c times (v + v^2 + .. + v^n) + 100 times v^n, with v = 2,000,000 / (2,000,000 + Y), as the paper writes it."""
+    """c times (v + v^2 + .. + v^n) + 100 times v^n, with v = 2,000,000 / (2,000,000 + Y), as document 01 writes it."""
     v = Fraction(2_000_000, 2_000_000 + yield_at(price))
     powers = [v**k for k in range(1, bond.halves + 1)]
     return bond.coupon * sum(powers) + 100 * powers[-1]

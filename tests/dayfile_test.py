@@ -11,12 +11,12 @@ sys.path.insert(0, str(ROOT / "tools"))
 
 import dayfile
 import settlement
-from days import PAPER
+from days import DOCUMENT_01_DAY
 from records import file_of
 from require import require
 from stored import cases
 
-SHEET_OF_THE_PAPER = """\
+DOCUMENT_01_SHEET = """\
 11 IR 3 18 24060 AUD
 12 IR 3 18 -9624 AUD
 total AUD 14436
@@ -30,9 +30,9 @@ def stored_files():
 
 
 def check_round_trips():
-    """What is shown of a file makes the same file: of every stored one, and of every part of the paper's."""
-    paper = file_of(PAPER)
-    parts = [(f"the first {k} bytes of the paper's file", paper[:k]) for k in range(len(paper))]
+    """What is shown of a file makes the same file: of every stored one, and of every part of document 01's."""
+    whole = file_of(DOCUMENT_01_DAY)
+    parts = [(f"the first {k} bytes of document 01's file", whole[:k]) for k in range(len(whole))]
     for name, file in stored_files() + parts:
         require(dayfile.made(dayfile.shown(file)) == file, "round trip of", name)
     print(f"dayfile: {len(stored_files()) + len(parts)} files come back from their text")
@@ -63,7 +63,7 @@ def sheet_of(sample):
 
 
 def check_samples():
-    require(sheet_of("case.txt") == SHEET_OF_THE_PAPER, "the sheet of the paper's case")
+    require(sheet_of("case.txt") == DOCUMENT_01_SHEET, "the sheet of document 01's case")
     require(sheet_of("day.txt").endswith("resent 1\n"), "the sheet of the sample day")
     print("dayfile: the samples settle")
 

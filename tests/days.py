@@ -38,8 +38,8 @@ def contracts(count):
     return [mark(code, month, year) for code, month, year in listed[:count]]
 
 
-# The paper's case.
-PAPER = day(
+# The case of document 01.
+DOCUMENT_01_DAY = day(
     [mark()],
     [correction(7, 0, 950_100), correction(7, 0, 950_100)],
     [position(10, 0, 11), position(-4, 0, 12)],

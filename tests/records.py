@@ -1,4 +1,4 @@
-"""The records of a day file and its layout, written from the build description, document 01: "The day file"."""
+"""The records of a day file and its layout, written from document 01: "The day file"."""
 import struct
 from dataclasses import dataclass
 

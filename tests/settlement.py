@@ -1,9 +1,8 @@
 #!/usr/bin/env python3
 """The settlement of a day file in plain Python, which shares nothing with the program it tests.
 
-It is written from the build description, document 01: "The day file", "Why a call is turned away" and the sheet. Records and
-layout are in records.py, and values come from calculator.py, in exact fractions. Nothing here is quick: a clash is looked for
-among all earlier records.
+It is written from document 01: "The day file", "Why a call is turned away" and the sheet. Records and layout are in records.py,
+and values come from calculator.py, in exact fractions. Nothing here is quick: a clash is looked for among all earlier records.
 
   settlement.py < file     prints the sheet of a day file
 """

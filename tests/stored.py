@@ -5,7 +5,7 @@ Every list below gives (name, file) or (name, file, places), where places is the
 import struct
 
 from calculator import LARGEST_U32, PRICE_LIMIT, PRODUCTS
-from days import PAPER, contracts, correction, day, file, mark, position, with_header
+from days import DOCUMENT_01_DAY, contracts, correction, day, file, mark, position, with_header
 from random_days import random_day
 from records import MAX_CORRECTIONS, MAX_MARKS, MAX_POSITIONS, file_of
 
@@ -36,14 +36,14 @@ LAYOUT = [
     ("positions_above_limit", file(positions=[position()] * (MAX_POSITIONS + 1))),
     ("largest_counts", struct.pack("<6I", LARGEST_U32, 24, LARGEST_U32, 12, LARGEST_U32, 0)),
     ("counts_that_would_wrap", wrapping_counts()),
-    ("marks_offset_high", with_header(file_of(PAPER), m_at=25)),
-    ("corrections_offset_low", with_header(file_of(PAPER), c_at=24)),
-    ("positions_offset_largest", with_header(file_of(PAPER), n_at=LARGEST_U32)),
-    ("offsets_of_a_gap", with_header(file_of(PAPER), n_at=72) + bytes(12)),
-    ("one_byte_short", file_of(PAPER)[:-1]),
-    ("one_byte_long", file_of(PAPER) + bytes(1)),
-    ("one_position_less_counted", with_header(file_of(PAPER), n=1)),
-    ("count_before_offset", with_header(file_of(PAPER), m_at=0, c=MAX_CORRECTIONS + 1)),
+    ("marks_offset_high", with_header(file_of(DOCUMENT_01_DAY), m_at=25)),
+    ("corrections_offset_low", with_header(file_of(DOCUMENT_01_DAY), c_at=24)),
+    ("positions_offset_largest", with_header(file_of(DOCUMENT_01_DAY), n_at=LARGEST_U32)),
+    ("offsets_of_a_gap", with_header(file_of(DOCUMENT_01_DAY), n_at=72) + bytes(12)),
+    ("one_byte_short", file_of(DOCUMENT_01_DAY)[:-1]),
+    ("one_byte_long", file_of(DOCUMENT_01_DAY) + bytes(1)),
+    ("one_position_less_counted", with_header(file_of(DOCUMENT_01_DAY), n=1)),
+    ("count_before_offset", with_header(file_of(DOCUMENT_01_DAY), m_at=0, c=MAX_CORRECTIONS + 1)),
 ]
 
 
@@ -106,8 +106,8 @@ POSITIONS = [
     ("one_lot_too_many_short", file(positions=[position(-1_000_001)])),
     ("smallest_i32_lots", file(positions=[position(SMALLEST_I32)])),
     ("one_account_twice_in_a_mark", file(positions=[position(10), position(10)])),
-    ("as_many_places_as_positions", file_of(PAPER), 2),
-    ("one_place_too_few", file_of(PAPER), 1),
+    ("as_many_places_as_positions", file_of(DOCUMENT_01_DAY), 2),
+    ("one_place_too_few", file_of(DOCUMENT_01_DAY), 1),
 ]
 
 
@@ -129,7 +129,7 @@ ORDER = [
 ]
 
 
-# Accepted files: the paper's case, every product, resent corrections, a full file
+# Accepted files: the case of document 01, every product, resent corrections, a full file
 
 EVERY_PRODUCT = [mark(code, 12, 30, 945_000 + 600 * k, 951_000 - 700 * k) for k, code in enumerate(PRODUCTS)]
 BOTH_WAYS = [position(lots * (k + 1), k, 100 * k) for k in range(len(PRODUCTS)) for lots in (13, -7)]
@@ -144,7 +144,7 @@ def resent(*order):
 
 
 ACCEPTED = [
-    ("case_of_the_paper", file_of(PAPER)),
+    ("case_of_document_01", file_of(DOCUMENT_01_DAY)),
     ("marks_alone", file(EVERY_PRODUCT, [], [])),
     ("every_product", file(EVERY_PRODUCT, [], BOTH_WAYS)),
     ("every_product_at_yield_0", file([mark(code, today=PRICE_LIMIT) for code in PRODUCTS], [], BOTH_WAYS)),

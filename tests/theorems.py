@@ -44,7 +44,7 @@ def ladder_figure(coupon, halves):
 
 
 def check_figures():
-    """The figures of the paper that concern one contract, and the two amounts of its sheet."""
+    """The figures of document 01 that concern one contract, and the two amounts of its sheet."""
     figures = [
         (value(b"IR", 950_000), 98_782_138),
         (value(b"IR", 950_100), 98_784_544),

@@ -1,5 +1,5 @@
 //! Safe functions over the proved library: the value, tick value and bracket of one contract, the settlement of a day file,
-//! and its sheet. The answers are those of the build description, document 01.
+//! and its sheet. The answers are those of document 01.
 //!
 //! The other modules are for the tests and the benchmark, are not proved, and use nothing of the library: `products` and
 //! `plain` are an independent build of the same job, `hashed` is the same with hash tables in place of pair loops, `sheet`

@@ -44,7 +44,7 @@ fn random_codes_and_prices() {
 }
 
 #[test]
-fn figures_of_the_paper() {
+fn figures_of_document_01() {
     assert_eq!(value(*b"IR", 950_000), Ok(98_782_138));
     assert_eq!(value(*b"IR", 950_100), Ok(98_784_544));
     assert_eq!(tick_value(*b"IR", 950_000), Ok(2_406));

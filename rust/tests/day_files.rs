@@ -27,7 +27,7 @@ fn places(random: &mut Random, positions: usize) -> usize {
 }
 
 /// The case of document 01.
-fn day_of_the_paper() -> Day {
+fn day_of_document_01() -> Day {
     let correction = Correction { number: 7, mark: 0, price: 950_100 };
     Day {
         marks: vec![Mark { code: *b"IR", month: 3, year: 18, previous: 950_000, today: 950_200 }],
@@ -37,16 +37,16 @@ fn day_of_the_paper() -> Day {
 }
 
 #[test]
-fn case_of_the_paper() {
-    let (answer, amounts) = settled_into(settle, &day_of_the_paper().bytes(), 2);
+fn case_of_document_01() {
+    let (answer, amounts) = settled_into(settle, &day_of_document_01().bytes(), 2);
     assert_eq!(answer, Ok(Settled { positions: 2, aud: 14_436, nzd: 0, resent: 1 }));
     assert_eq!(amounts, [24_060, -9_624]);
 }
 
 #[test]
-fn sheet_of_the_paper() {
+fn sheet_of_document_01() {
     let printed = "11 IR 3 18 24060 AUD\n12 IR 3 18 -9624 AUD\ntotal AUD 14436\ntotal NZD 0\nresent 1\n";
-    let file = day_of_the_paper().bytes();
+    let file = day_of_document_01().bytes();
     for (places, expected) in [(2, printed), (1, "refused 14 at 0\n")] {
         let mut out = vec![0; SHEET_SIZE];
         let length = write_sheet(&file, &mut vec![0; places], &mut out);
@@ -87,7 +87,7 @@ fn damaged_files_meet_every_check() {
 #[test]
 fn every_truncation() {
     let mut random = Random::new(521_288_629);
-    let files = [day_of_the_paper().bytes(), day_of(&mut random, 3, 4, 5).bytes()];
+    let files = [day_of_document_01().bytes(), day_of(&mut random, 3, 4, 5).bytes()];
     for file in files {
         for length in 0..file.len() {
             let refusal = agreed(&file[..length], 8).expect_err("a part of a file");
@@ -103,7 +103,7 @@ fn every_truncation() {
 #[test]
 fn every_flipped_bit() {
     let mut random = Random::new(5_783_321);
-    for file in [day_of_the_paper().bytes(), day_of(&mut random, 6, 7, 8).bytes()] {
+    for file in [day_of_document_01().bytes(), day_of(&mut random, 6, 7, 8).bytes()] {
         for bit in 0..8 * file.len() {
             let mut flipped = file.clone();
             flipped[bit / 8] ^= 1 << (bit % 8);

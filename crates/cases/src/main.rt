@@ -193,9 +193,9 @@ fn order() {
     case(b"offset_before_code");
 }
 
-// The paper's case, every product, resent corrections, a full file.
+// The case of document 01, every product, resent corrections, a full file.
 fn accepted() {
-    case(b"case_of_the_paper");
+    case(b"case_of_document_01");
     case(b"marks_alone");
     case(b"every_product");
     case(b"every_product_at_yield_0");

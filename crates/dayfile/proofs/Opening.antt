@@ -63,7 +63,7 @@ module _ (l : Limits) (f : List ℕ) where
   laid-opens h =
       simp (le-ltb _ _ (h .header), le-leb _ _ (h .marks-fit), le-leb _ _ (h .corrections-fit), le-leb _ _ (h .positions-fit), eq-eqb _ _ (h .marks-at), eq-eqb _ _ (h .corrections-at), eq-eqb _ _ (h .positions-at), eq-eqb _ _ (h .ends-at))
 
--- the same, as the settlement asks it
+-- a file that passes at the day file's own limits has counts within them, and the length that they give
 pub laid-out : (f : List ℕ) {d : DayFile} → openedOf fileLimits f ≡ File d → LaidOut f d
 unfolding countsOf
 laid-out f p =

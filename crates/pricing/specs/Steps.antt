@@ -1,4 +1,4 @@
--- What the calls on one contract share: checks 4, 6 and 7 by themselves. No caller sees these.
+-- Checks 4, 6 and 7 by themselves, as `check` makes them for `two_values` and `tick_value`. No caller of the crate sees these.
 use Prim.Native.Nat.{ℕ}
 use Rattle.pricing.specs.Products.{find}
 use Rattle.pricing.specs.Calls.{Answer, refused, judged}
