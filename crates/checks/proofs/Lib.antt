@@ -1,5 +1,5 @@
 pub mod Passed
-pub mod Pricing
+pub mod Lookup
 mod Judgements
 mod Clashes
 mod Repeats

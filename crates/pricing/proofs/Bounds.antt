@@ -7,7 +7,7 @@ use Rattle.numbers.specs.Rounding.{nearest}
 use Rattle.numbers.proofs.Rounding.{nearest-mono}
 use Rattle.pricing.specs.Prices.{par, priceLimit, yieldAt}
 use Rattle.pricing.specs.Ladder.{base, firstFactor, factor, annuity, bracket}
-use Rattle.pricing.specs.Value.{scale, billDividend, billDivisor, bondDivisor, valueBy, Modest, valueCap}
+use Rattle.pricing.specs.Value.{scale, billDividend, billDivisor, bondDivisor, valueBy, StepsFit, Modest, valueCap}
 use Rattle.pricing.specs.declared.products.Terms.{Terms}
 use Rattle.pricing.specs.declared.products.Terms.the-variants.{Bill, Bond, CashRate}
 use Rattle.pricing.proofs.Factors.{first-below, factor-below, annuity-below}
@@ -39,13 +39,8 @@ unfolding bracket scale
 bracket-cap {c} {n} {p} h hc hn =
     omega (arith, mul-le-mul hc (le-trans (annuity-cap h n) (mul-le-mul-right scale hn)), factor-cap h n)
 
--- the products and quotients' parts that a value is computed from are below 2^63, so that half a divisor more fits 64 bits
-abbrev pub Steps : Terms → ℕ → Type 0
-Steps (Bill face days) p = (billDividend face < 2 ^ 63) × (billDivisor days p < 2 ^ 63)
-Steps (Bond face c n) p = ((k : ℕ) → factor scale (bondDivisor p) k * firstFactor scale (bondDivisor p) < 2 ^ 63) × (bracket scale c n (bondDivisor p) * face < 2 ^ 63)
-Steps (CashRate cents) p = cents * p < 2 ^ 63
-
-pub steps-fit-by : {p : ℕ} → p ≤ priceLimit → (t : Terms) → Modest t → Steps t p
+-- so that half a divisor more fits 64 bits
+pub steps-fit-by : {p : ℕ} → p ≤ priceLimit → (t : Terms) → Modest t → StepsFit t p
 unfolding billDividend billDivisor yieldAt par priceLimit scale
 steps-fit-by {p} h (Bill face days) s =
     (omega (arith, s .0), omega (arith, mul-le-mul {m₁ = 1_000_000 - p} {m₂ = 1_000_000} (s .1) (omega arith)))

@@ -15,7 +15,7 @@ use Rattle.numbers.proofs.Rounding.{nearest-scale}
 use Rattle.pricing.specs.Prices.{priceLimit, yieldAt}
 use Rattle.pricing.specs.Products.{find, hasMonth, monthsOf}
 use Rattle.pricing.specs.Ladder.{base, factor, bracket, exactBracket, wholeBracket}
-use Rattle.pricing.specs.Value.{scale, billDividend, billDivisor, bondDivisor, valueBy, exactOf, valueCap}
+use Rattle.pricing.specs.Value.{scale, billDividend, billDivisor, bondDivisor, valueBy, exactOf, valueCap, StepsFit}
 use Rattle.pricing.specs.Calls.{given, valueOf, tickValueOf, bracketOf}
 use Rattle.pricing.specs.Conditions.{valueFaults, tickValueFaults, bracketFaults, Exactly}
 use Rattle.pricing.specs.Accuracy.{bracketDistanceOf, accuracyOf}
@@ -28,7 +28,7 @@ use Rattle.pricing.proofs.Distance as distance
 use Rattle.pricing.proofs.Exact as exact
 use Rattle.pricing.proofs.Table.{sound}
 use Rattle.pricing.proofs.Months as months
-use Rattle.pricing.proofs.Bounds.{Steps, factor-cap, steps-fit-by, value-by-cap}
+use Rattle.pricing.proofs.Bounds.{factor-cap, steps-fit-by, value-by-cap}
 use Rattle.pricing.proofs.Rise.{value-by-rises}
 use Rattle.pricing.proofs.Answers.{valued, gives-value, tick-valued}
 use Rattle.pricing.proofs.Accuracy.{product-accurate}
@@ -117,7 +117,7 @@ unfolding scale
 factor-small h k = factor-cap h k
 
 -- No step of a value of the table leaves 64 bits.
-pub steps-fit : (code : Code) (p : ℕ) {q : Product} → find code ≡ At q → p ≤ priceLimit → Steps (q .terms) p
+pub steps-fit : (code : Code) (p : ℕ) {q : Product} → find code ≡ At q → p ≤ priceLimit → StepsFit (q .terms) p
 steps-fit code p {q} f h = steps-fit-by h (q .terms) (sound code (sym f) refl .terms)
 
 -- No value is above 500,000,000 cents.

@@ -45,38 +45,38 @@ Clash c d = (c .number ≡ d .number) × ((c .mark ≢ d .mark) ⊎ (c .price �
 
 abbrev pub Wrong : Lists → Check → ℕ → Type 0
 -- 4: a mark's code is not in the product table
-Wrong l check.Code i = Unlisted (markAt (l .marks) i .code)
+Wrong ls check.Code i = Unlisted (markAt (ls .marks) i .code)
 -- 5: a mark's month is not one of its product's months, or its year is above 99
-Wrong l check.Date i = let m = markAt (l .marks) i in ¬ (Quoted (m .code) (m .month)) ⊎ (yearLimit < m .year)
+Wrong ls check.Date i = let m = markAt (ls .marks) i in ¬ (Quoted (m .code) (m .month)) ⊎ (yearLimit < m .year)
 -- 6: a mark's price is above 1,000,000
-Wrong l check.PriceLimit i = let m = markAt (l .marks) i in (priceLimit < m .previous) ⊎ (priceLimit < m .today)
+Wrong ls check.PriceLimit i = let m = markAt (ls .marks) i in (priceLimit < m .previous) ⊎ (priceLimit < m .today)
 -- 7: a mark's price is not a multiple of its product's tick
-Wrong l check.Tick i = let m = markAt (l .marks) i in OffTick m (m .previous) ⊎ OffTick m (m .today)
+Wrong ls check.Tick i = let m = markAt (ls .marks) i in OffTick m (m .previous) ⊎ OffTick m (m .today)
 -- 8: it agrees with an earlier mark in code, month and year
-Wrong l check.MarkRepeated i = (j : ℕ) × (j < i) × SameContract (markAt (l .marks) i) (markAt (l .marks) j)
+Wrong ls check.MarkRepeated i = (j : ℕ) × (j < i) × SameContract (markAt (ls .marks) i) (markAt (ls .marks) j)
 -- 9: a correction names no mark
-Wrong l check.CorrectionMark i = length (l .marks) ≤ correctionAt (l .corrections) i .mark
+Wrong ls check.CorrectionMark i = length (ls .marks) ≤ correctionAt (ls .corrections) i .mark
 -- 10: a correction's price breaks 6 or 7 for its mark
-Wrong l check.CorrectionPrice i = let c = correctionAt (l .corrections) i in (priceLimit < c .price) ⊎ OffTick (markAt (l .marks) (c .mark)) (c .price)
+Wrong ls check.CorrectionPrice i = let c = correctionAt (ls .corrections) i in (priceLimit < c .price) ⊎ OffTick (markAt (ls .marks) (c .mark)) (c .price)
 -- 11: it agrees with an earlier correction in number but differs in mark or price
-Wrong l check.CorrectionClash i = (j : ℕ) × (j < i) × Clash (correctionAt (l .corrections) i) (correctionAt (l .corrections) j)
+Wrong ls check.CorrectionClash i = (j : ℕ) × (j < i) × Clash (correctionAt (ls .corrections) i) (correctionAt (ls .corrections) j)
 -- 12: a position names no mark
-Wrong l check.PositionMark i = length (l .marks) ≤ positionAt (l .positions) i .mark
+Wrong ls check.PositionMark i = length (ls .marks) ≤ positionAt (ls .positions) i .mark
 -- 13: a position's lots are 0, below −1,000,000 or above 1,000,000
-Wrong l check.Lots i = let p = positionAt (l .positions) i in (p .lots ≡ pos 0) ⊎ (p .lots <ℤ negℤ (pos lotsLimit)) ⊎ (pos lotsLimit <ℤ p .lots)
+Wrong ls check.Lots i = let p = positionAt (ls .positions) i in (p .lots ≡ pos 0) ⊎ (p .lots <ℤ negℤ (pos lotsLimit)) ⊎ (pos lotsLimit <ℤ p .lots)
 
 -- how many records the section of a check has
 abbrev pub sizeOf : Lists → Check → ℕ
-sizeOf l check.Code = length (l .marks)
-sizeOf l check.Date = length (l .marks)
-sizeOf l check.PriceLimit = length (l .marks)
-sizeOf l check.Tick = length (l .marks)
-sizeOf l check.MarkRepeated = length (l .marks)
-sizeOf l check.CorrectionMark = length (l .corrections)
-sizeOf l check.CorrectionPrice = length (l .corrections)
-sizeOf l check.CorrectionClash = length (l .corrections)
-sizeOf l check.PositionMark = length (l .positions)
-sizeOf l check.Lots = length (l .positions)
+sizeOf ls check.Code = length (ls .marks)
+sizeOf ls check.Date = length (ls .marks)
+sizeOf ls check.PriceLimit = length (ls .marks)
+sizeOf ls check.Tick = length (ls .marks)
+sizeOf ls check.MarkRepeated = length (ls .marks)
+sizeOf ls check.CorrectionMark = length (ls .corrections)
+sizeOf ls check.CorrectionPrice = length (ls .corrections)
+sizeOf ls check.CorrectionClash = length (ls .corrections)
+sizeOf ls check.PositionMark = length (ls .positions)
+sizeOf ls check.Lots = length (ls .positions)
 
 -- ---- all fourteen
 

@@ -54,7 +54,7 @@ module _ (ms : List Mark) (ps : List Position) (change : ℕ → ℤ) where
 
 -- each mark's change, of three lists
 abbrev pub changeIn : Lists → ℕ → ℤ
-changeIn l = changeOf (l .marks) (finalOf (l .marks) (l .corrections))
+changeIn ls = changeOf (ls .marks) (finalOf (ls .marks) (ls .corrections))
 
 -- a position of a file, its mark, and its two settlement prices
 abbrev pub positionIn : List ℕ → ℕ → Position
@@ -81,10 +81,10 @@ said (Refused k i) = refused k i
 
 -- the amounts of three lists that pass, in the first places of the slice
 abbrev pub paid : Lists → List ℤ → List ℤ
-paid l a = front (amountOf (l .positions) (changeIn l)) a (length (l .positions))
+paid ls a = front (amountOf (ls .positions) (changeIn ls)) a (length (ls .positions))
 
 abbrev pub totals : Lists → Answer
-totals l = settled (length (l .positions)) (totalOf (l .marks) (l .positions) (changeIn l) Aud) (totalOf (l .marks) (l .positions) (changeIn l) Nzd) (resentOf (l .corrections))
+totals ls = settled (length (ls .positions)) (totalOf (ls .marks) (ls .positions) (changeIn ls) Aud) (totalOf (ls .marks) (ls .positions) (changeIn ls) Nzd) (resentOf (ls .corrections))
 
 -- what is to be done with three lists
 pub data Plan : Type 0 where
@@ -93,34 +93,34 @@ pub data Plan : Type 0 where
 
 -- check 14, after the checks over the records
 abbrev pub roomPlan : Lists → ℕ → Plan
-roomPlan l places = cond (ltb places (length (l .positions))) (refuse 14 0) (accept l)
+roomPlan ls places = cond (ltb places (length (ls .positions))) (refuse 14 0) (accept ls)
 
 abbrev pub listsPlan : Lists → Verdict → ℕ → Plan
-listsPlan l (Failed c i) places = refuse (numberOf c) i
-listsPlan l Passed places = roomPlan l places
+listsPlan ls (Failed c i) places = refuse (numberOf c) i
+listsPlan ls Passed places = roomPlan ls places
 
 abbrev pub planFor : Lists → ℕ → Plan
-planFor l places = listsPlan l (verdictOf l) places
+planFor ls places = listsPlan ls (verdictOf ls) places
 
 abbrev pub openedPlan : List ℕ → Opened → ℕ → Plan
-openedPlan s (opened.Refused k) places = refuse k 0
-openedPlan s (opened.File d) places = planFor (listsIn s d) places
+openedPlan f (opened.Refused k) places = refuse k 0
+openedPlan f (opened.File d) places = planFor (listsIn f d) places
 
 -- what is to be done with a file, for a slice of so many places
 unfoldable pub planOf : Limits → List ℕ → ℕ → Plan
-planOf l s places = openedPlan s (openedOf l s) places
+planOf l f places = openedPlan f (openedOf l f) places
 
 abbrev pub answerBy : Plan → Answer
 answerBy (refuse k i) = refused k i
-answerBy (accept l) = totals l
+answerBy (accept ls) = totals ls
 
 abbrev pub paidBy : Plan → List ℤ → List ℤ
 paidBy (refuse k i) a = a
-paidBy (accept l) a = paid l a
+paidBy (accept ls) a = paid ls a
 
 -- the answer to a file, and the slice after it
 unfoldable pub answerOf : Limits → List ℕ → ℕ → Answer
-answerOf l s places = answerBy (planOf l s places)
+answerOf l f places = answerBy (planOf l f places)
 
 unfoldable pub amountsAfter : Limits → List ℕ → List ℤ → List ℤ
-amountsAfter l s a = paidBy (planOf l s (length a)) a
+amountsAfter l f a = paidBy (planOf l f (length a)) a

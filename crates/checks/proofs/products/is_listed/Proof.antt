@@ -1,5 +1,5 @@
 use mathlib.Core.Path.{refl}
-use Rattle.checks.proofs.Pricing.{by-lookup}
+use Rattle.checks.proofs.Lookup.{by-lookup}
 use Rattle.checks.specs.Products.{listed, listedIn}
 use borrow.Author.Needs.{needs}
 use Rattle.checks.proofs.products.is_listed.Statement.{statement}

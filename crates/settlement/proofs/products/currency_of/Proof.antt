@@ -1,5 +1,5 @@
 use mathlib.Core.Path.{refl}
-use Rattle.checks.proofs.Pricing.{by-lookup}
+use Rattle.checks.proofs.Lookup.{by-lookup}
 use Rattle.settlement.specs.Products.{currencyOf, currencyIn}
 use borrow.Author.Needs.{needs}
 use Rattle.settlement.proofs.products.currency_of.Statement.{statement}

@@ -1,9 +1,8 @@
--- What the checks know of the pricing part: laws that it exports.
+-- A definition over the product table, from what a lookup found.
 use mathlib.Core.Path.{_≡_}
 use Rattle.pricing.specs.Products.{find}
 use Rattle.pricing.specs.declared.products.Found.{Found}
 use Rattle.pricing.specs.declared.products.Code.{Code}
 
--- a definition that goes by what the table has, from what a lookup found
 pub by-lookup : {R : Type 0} (f : Found → R) (a : Code) {o q : Found} {r : R} → o ≡ find a → o ≡ q → r ≡ f q → r ≡ f (find a)
 by-lookup f a e g h = rw (← e, g) h
