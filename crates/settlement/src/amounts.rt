@@ -92,10 +92,10 @@ fn summed(positions: &[u8], a: &[i64; DayFile::MAX_MARKS]) -> i64
 {
     let n = position_count(positions);
     let mut t: i64 = 0;
-    let mut i = 0;
-    while i < n {
-        t = plus(t, amount(positions, a, i));
-        i += 1;
+    let mut k = 0;
+    while k < n {
+        t = plus(t, amount(positions, a, k));
+        k += 1;
     }
     t
 }

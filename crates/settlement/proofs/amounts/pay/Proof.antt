@@ -44,7 +44,7 @@ slice-set-from-amounts c =
 
 add-i : tie.Need-add-i Inv-loop μ-loop
 add-i c =
-    omega arith
+    omega (arith, c .before .before .before .position-count .ensures, c .before .before .before .before .before .pre .0 .0 .few)
 
 loop-less : tie.Need-loop-less Inv-loop μ-loop
 loop-less c =

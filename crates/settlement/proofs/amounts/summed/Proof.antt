@@ -40,12 +40,12 @@ plus-requires c κs =
     let at = c .before .before .loop in
     let g = c .before .before .before .before .before .pre in
     let q = c .before .before .before .position-count .ensures in (
-      rw (held _ _ (g .0) (g .1) (at .i) (omega (arith, q, at .inv .0)) (at .inv .1)) (sum-in _ _ (g .0) (g .1) (at .i) (omega (arith, q, at .inv .0))),
-      rw (back (c .amount .result) (c .amount .ok), c .amount .ensures) (amount-small _ _ (g .0) (g .1) (at .i) (omega (arith, q, c .before .loop-test .taken))),
+      rw (held _ _ (g .0) (g .1) (at .k) (omega (arith, q, at .inv .0)) (at .inv .1)) (sum-in _ _ (g .0) (g .1) (at .k) (omega (arith, q, at .inv .0))),
+      rw (back (c .amount .result) (c .amount .ok), c .amount .ensures) (amount-small _ _ (g .0) (g .1) (at .k) (omega (arith, q, c .before .loop-test .taken))),
     )
 
-add-i : tie.Need-add-i Inv-loop μ-loop
-add-i c =
+add-k : tie.Need-add-k Inv-loop μ-loop
+add-k c =
     omega arith
 
 loop-less : tie.Need-loop-less Inv-loop μ-loop
@@ -60,7 +60,7 @@ loop-again c =
       omega arith,
       rw add-one
           (ap (ofZ w64)
-          (by-two _+ℤ_ (c .plus .ensures) (held _ _ (g .0) (g .1) (at .i) (omega (arith, q, at .inv .0)) (at .inv .1)) (back (c .before .amount .result) (c .before .amount .ok) ∙ c .before .amount .ensures))),
+          (by-two _+ℤ_ (c .plus .ensures) (held _ _ (g .0) (g .1) (at .k) (omega (arith, q, at .inv .0)) (at .inv .1)) (back (c .before .amount .result) (c .before .amount .ok) ∙ c .before .amount .ensures))),
     )
 
 returns : tie.Need-returns Inv-loop μ-loop
@@ -68,7 +68,7 @@ returns c =
     let at = c .before .loop in
     let g = c .before .before .before .before .pre in
     let q = c .before .before .position-count .ensures in
-    rw (← q) (at-end (sum _) (held _ _ (g .0) (g .1) (at .i) (omega (arith, q, at .inv .0)) (at .inv .1)) (at .inv .0) (c .loop-test .left))
+    rw (← q) (at-end (sum _) (held _ _ (g .0) (g .1) (at .k) (omega (arith, q, at .inv .0)) (at .inv .1)) (at .inv .0) (c .loop-test .left))
 
 pub summed-spec : {M : Type 1} → statement M
 summed-spec =
@@ -80,7 +80,7 @@ summed-spec =
     loop-holds
     amount-requires
     plus-requires
-    add-i
+    add-k
     loop-less
     loop-again
     returns)
