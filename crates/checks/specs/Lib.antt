@@ -2,5 +2,5 @@ pub mod Products
 pub mod Faults
 pub mod Checks
 pub mod Judging
-pub mod Steps
 pub mod Told
+pub mod Steps

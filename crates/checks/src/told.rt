@@ -1,10 +1,10 @@
 // What the pairs of a file's records say: its marks of one contract, and its corrections with one number.
 use crate::faults::clashing;
-use dayfile::DayFile;
 use dayfile::correction_at;
 use dayfile::correction_count;
 use dayfile::mark_count;
 use numbers::Found;
+use pairs::LONGEST;
 use pairs::Pair;
 use pairs::earlier;
 ghost use mathlib.Core.Path.{_≡_};
@@ -45,7 +45,7 @@ fn one_if(b: bool) -> usize
 }
 
 // The first mark of an earlier one's contract.
-fn first_repeated(marks: &[u8], contracts: &[u16; DayFile::MAX_CORRECTIONS]) -> Found
+fn first_repeated(marks: &[u8], contracts: &[u16; LONGEST]) -> Found
     requires { ⌜ Contracts (marksIn (now marks)) (now contracts) ⌝ }
     ensures { λ r. ⌜ r ≡ first (repeating (contractPair (marksIn (now (marks .entry))))) (length (marksIn (now (marks .entry)))) ⌝ }
 {
@@ -74,7 +74,7 @@ fn clashes_below(corrections: &[u8], i: usize, k: u16) -> bool
 }
 
 // The first correction that clashes with an earlier one. Where none before it does, it is enough to look at the last with the same number.
-fn first_clash(corrections: &[u8], numbers: &[u16; DayFile::MAX_CORRECTIONS]) -> Found
+fn first_clash(corrections: &[u8], numbers: &[u16; LONGEST]) -> Found
     requires { ⌜ Numbers (correctionsIn (now corrections)) (now numbers) ⌝ }
     ensures { λ r. ⌜ r ≡ first (repeating (clashPair (correctionsIn (now (corrections .entry))))) (length (correctionsIn (now (corrections .entry)))) ⌝ }
 {
@@ -90,7 +90,7 @@ fn first_clash(corrections: &[u8], numbers: &[u16; DayFile::MAX_CORRECTIONS]) ->
 }
 
 // How many corrections bear a number that an earlier one bears.
-fn resent_count(corrections: &[u8], numbers: &[u16; DayFile::MAX_CORRECTIONS]) -> usize
+fn resent_count(corrections: &[u8], numbers: &[u16; LONGEST]) -> usize
     requires { ⌜ Numbers (correctionsIn (now corrections)) (now numbers) ⌝ }
     ensures { λ r. ⌜ r ≡ resentOf (correctionsIn (now (corrections .entry))) ⌝ }
 {

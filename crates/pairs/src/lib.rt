@@ -3,4 +3,5 @@ mod keys;
 mod walks;
 
 pub use keys::Pair;
+pub use walks::LONGEST;
 pub use walks::earlier;

@@ -13,10 +13,13 @@ ghost use Rattle.numbers.specs.Trees.{nodeOf, WalkOf, Grown};
 ghost use Rattle.pairs.specs.Pairs.{longest, least, earliersOf};
 ghost use Rattle.pairs.specs.Keys.{roots, scattered, keysOf};
 
+// No section in which pairs are looked for may have more records.
+pub const LONGEST: usize = DayFile::MAX_CORRECTIONS;
+
 const ROOTS: usize = 4_096;
 
 // The roots, and two places below each record.
-const PLACES: usize = ROOTS + 2 * DayFile::MAX_CORRECTIONS;
+const PLACES: usize = ROOTS + 2 * LONGEST;
 
 // The number that leads the walk of a key.
 fn scatter(key: u32) -> usize
@@ -65,22 +68,18 @@ fn node(k: usize, i: usize) -> usize
 fn at_most(n: usize) -> usize
     ensures { λ r. ⌜ (r ≡ least longest n) × (r ≤ longest) ⌝ }
 {
-    if n < DayFile::MAX_CORRECTIONS {
-        n
-    } else {
-        DayFile::MAX_CORRECTIONS
-    }
+    if n < LONGEST { n } else { LONGEST }
 }
 
 // For each record of a section, one more than the index of the last earlier record that makes a pair with it, or 0. Records behind the
-// first 512 are not looked at.
-pub fn earlier(section: &[u8], p: Pair) -> [u16; DayFile::MAX_CORRECTIONS]
+// first LONGEST are not looked at.
+pub fn earlier(section: &[u8], p: Pair) -> [u16; LONGEST]
     ensures { λ r. ⌜ r ≡ earliersOf (now (section .entry)) p ⌝ }
 {
     let n = at_most(size(section, p));
     let mut place = [0u16; PLACES];
-    let mut last = [0u16; DayFile::MAX_CORRECTIONS];
-    let mut found = [0u16; DayFile::MAX_CORRECTIONS];
+    let mut last = [0u16; LONGEST];
+    let mut found = [0u16; LONGEST];
     let mut i = 0;
     while i < n {
         let at = walk(section, p, &place, i);

@@ -3,7 +3,7 @@ pub mod Products
 pub mod Ladder
 pub mod Value
 pub mod Calls
-pub mod Steps
 pub mod Conditions
 pub mod Accuracy
 pub mod Figures
+pub mod Steps

@@ -2,5 +2,5 @@ pub mod Products
 pub mod Conditions
 pub mod Prices
 pub mod Settling
-pub mod Steps
 pub mod Resend
+pub mod Steps
