@@ -1,5 +1,4 @@
 pub mod Passed
-pub mod Lookup
 mod Judgements
 mod Clashes
 mod Repeats

@@ -9,7 +9,7 @@ use lib.Signed.{ltZ}
 use Rattle.numbers.specs.Integers.{isZero}
 use Rattle.dayfile.specs.Limits.{yearLimit, lotsLimit}
 use Rattle.pairs.specs.Pairs.{sameNumber}
-use Rattle.checks.specs.Products.{aboveLimit, listed, quoted, tickOf}
+use Rattle.checks.specs.Table.{aboveLimit, listed, quoted, tickOf}
 use Rattle.dayfile.specs.declared.records.Mark.{Mark}
 use Rattle.dayfile.specs.declared.records.Correction.{Correction}
 use Rattle.dayfile.specs.declared.records.Position.{Position}

@@ -1,4 +1,4 @@
-pub mod Products
+pub mod Table
 pub mod Faults
 pub mod Checks
 pub mod Judging

@@ -38,7 +38,7 @@ Contracts ms e = Lasts (contractPair ms) (length ms) e
 abbrev pub Numbers : List Correction → List ℕ → Type 0
 Numbers cs e = Lasts (numberPair cs) (length cs) e
 
--- correction i clashes with the one just below k
+-- correction i clashes with correction k − 1; it does not where k is 0
 unfoldable pub clashesBelow : List Correction → ℕ → ℕ → Bool
 clashesBelow cs i zero = false
 clashesBelow cs i (suc j) = clashPair cs i j

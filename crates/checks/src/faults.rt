@@ -1,5 +1,5 @@
 // What each check looks for in a record, or in a record and an earlier one.
-use crate::products;
+use crate::table;
 use dayfile::Correction;
 use dayfile::Mark;
 use dayfile::Position;
@@ -19,28 +19,28 @@ const MOST_LOTS: i64 = 1_000_000;
 fn off_tick(m: Mark, p: u32) -> bool
     ensures { λ r. ⌜ r ≡ offTick m p ⌝ }
 {
-    pricing::off_tick(p, products::tick(m.code))
+    products::off_tick(p, table::tick(m.code))
 }
 
 // 4: the code is not in the product table.
 pub(crate) fn bad_code(m: Mark) -> bool
     ensures { λ r. ⌜ r ≡ badCode m ⌝ }
 {
-    !products::is_listed(m.code)
+    !table::is_listed(m.code)
 }
 
 // 5: the month is not one of the product's, or the year is above 99.
 pub(crate) fn bad_date(m: Mark) -> bool
     ensures { λ r. ⌜ r ≡ badDate m ⌝ }
 {
-    !products::is_quoted(m.code, m.month) | (m.year > YEAR_LIMIT)
+    !table::is_quoted(m.code, m.month) | (m.year > YEAR_LIMIT)
 }
 
 // 6: a price is above the highest one.
 pub(crate) fn high_mark(m: Mark) -> bool
     ensures { λ r. ⌜ r ≡ highMark m ⌝ }
 {
-    products::above_limit(m.previous) | products::above_limit(m.today)
+    table::above_limit(m.previous) | table::above_limit(m.today)
 }
 
 // 7: a price is not a multiple of the product's tick.
@@ -61,7 +61,7 @@ pub(crate) fn no_mark(marks: &[u8], k: usize) -> bool
 fn bad_price(m: Mark, c: Correction) -> bool
     ensures { λ r. ⌜ r ≡ badPrice m c ⌝ }
 {
-    products::above_limit(c.price) | off_tick(m, c.price)
+    table::above_limit(c.price) | off_tick(m, c.price)
 }
 
 // 11: two corrections agree in number but differ in mark or price.

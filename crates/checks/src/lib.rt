@@ -2,7 +2,7 @@
 mod faults;
 mod judging;
 mod order;
-mod products;
+mod table;
 mod told;
 
 pub use judging::Judged;

@@ -34,7 +34,7 @@ pub enum Check {
     Lots,
 }
 
-// Whether a check over pairs finds the record with index i.
+// Whether what was found is the record with index i.
 fn finds(found: Found, i: usize) -> bool
     ensures { λ r. ⌜ r ≡ isAt found i ⌝ }
 {

@@ -21,8 +21,9 @@ ghost use Rattle.checks.specs.Judging.{resentOf};
 ghost use Rattle.checks.specs.Told.{clashesBelow, Contracts, Numbers, toldFrom};
 ghost use Rattle.checks.specs.Steps.{bit};
 
+// What checks 8 and 11 find in a file, and its resent count.
 pub struct Told {
-    // the first mark of an earlier one's contract
+    // the first mark that agrees with an earlier one in code, month and year
     pub repeated: Found,
     // the first correction that clashes with an earlier one
     pub clash: Found,
@@ -30,7 +31,7 @@ pub struct Told {
     pub resent: usize,
 }
 
-// Whether there is an earlier record, one more than whose index is k.
+// Whether k, one more than the index of an earlier record or 0, names a record.
 fn is_some(k: u16) -> bool
     ensures { λ r. ⌜ r ≡ not (eqb k 0) ⌝ }
 {
@@ -44,7 +45,7 @@ fn one_if(b: bool) -> usize
     if b { 1 } else { 0 }
 }
 
-// The first mark of an earlier one's contract.
+// The first mark that agrees with an earlier one in code, month and year.
 fn first_repeated(marks: &[u8], contracts: &[u16; LONGEST]) -> Found
     requires { ⌜ Contracts (marksIn (now marks)) (now contracts) ⌝ }
     ensures { λ r. ⌜ r ≡ first (repeating (contractPair (marksIn (now (marks .entry))))) (length (marksIn (now (marks .entry)))) ⌝ }
@@ -60,7 +61,7 @@ fn first_repeated(marks: &[u8], contracts: &[u16; LONGEST]) -> Found
     Found::Nothing
 }
 
-// Whether correction i clashes with the one just below k.
+// Whether correction i clashes with correction k − 1; it does not where k is 0.
 fn clashes_below(corrections: &[u8], i: usize, k: u16) -> bool
     ensures { λ r. ⌜ r ≡ clashesBelow (correctionsIn (now (corrections .entry))) i k ⌝ }
 {

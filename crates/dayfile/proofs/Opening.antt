@@ -70,7 +70,7 @@ laid-out f p =
     let (h, e) = opens fileLimits f p in
     rw (← e) (record { limited = record { marks = h .marks-fit; corrections = h .corrections-fit; positions = h .positions-fit }; whole = h .ends-at })
 
--- no file is longer than one with as many records as the limits allow
+-- a file longer than the limits allow is refused with 2 or 3
 pub too-long : (f : List ℕ) → 58392 < length f → (openedOf fileLimits f ≡ Refused 2) ⊎ (openedOf fileLimits f ≡ Refused 3)
 unfolding openedOf countsOf
 too-long f h = go (withinLimits fileLimits (countsOf f)) refl (asLaidOut f (countsOf f)) refl

@@ -1,7 +1,7 @@
 // The records of a day file, read from a section's bytes.
 use crate::bytes::u32_at;
 use numbers::as_signed;
-use pricing::Code;
+use products::Code;
 ghost use mathlib.Core.Path.{_≡_};
 ghost use Prim.Native.Nat.{_≤_, _/_};
 ghost use lib.ListN.{length};

@@ -8,8 +8,8 @@ ghost use Rattle.settlement.specs.Settling.{answerOf, amountsAfter};
 ghost use Rattle.settlement.specs.Settling.{said as saidOfDay};
 ghost use Rattle.text.specs.Writing.{Wrote};
 ghost use Rattle.ffi.specs.Numbers.{quoteOf, outcomeOf};
-use pricing::Code;
 use pricing::Priced;
+use products::Code;
 use settlement::Settlement;
 
 // The answer of a call on one contract: the number given, with a refused of 0; or the number of the check that refuses it.

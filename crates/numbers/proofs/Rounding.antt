@@ -11,6 +11,11 @@ pub nearest-near : (x d : ℕ) → 0 < d → Near (2 * (nearest x d * d)) (2 * x
 unfolding nearest
 nearest-near x d h = omega (arith, mul-div-le (2 * x + d) (2 * d), lt-mul-div-succ (2 * x + d) {b = 2 * d} (omega arith))
 
+-- x / d, rounded, is the whole number r with r − 1/2 ≤ x / d < r + 1/2: a half goes up
+pub half-up : (x d : ℕ) → 0 < d → (2 * (nearest x d * d) ≤ 2 * x + d) × (2 * x < 2 * (nearest x d * d) + d)
+unfolding nearest
+half-up x d h = (omega (arith, mul-div-le (2 * x + d) (2 * d)), omega (arith, lt-mul-div-succ (2 * x + d) {b = 2 * d} (omega arith)))
+
 -- a larger dividend and a smaller divisor give no smaller quotient
 pub nearest-mono : (x y d e : ℕ) → 0 < d → x ≤ y → d ≤ e → nearest x e ≤ nearest y d
 unfolding nearest
@@ -36,7 +41,7 @@ nearest-scale k x d hk = ap₂ (λ (m n : ℕ). m / n) (p k x d) (q k d) ∙ mul
     q : (k d : ℕ) → 2 * (k * d) ≡ k * (2 * d)
     q k d = omega arith
 
--- ---- three ways to compute it
+-- ---- two ways to compute it, and a divisor of 0
 
 pub nearest-none : (x : ℕ) → nearest x 0 ≡ 0
 unfolding nearest

@@ -19,7 +19,7 @@ unfoldable pub first : (ℕ → Bool) → ℕ → Found
 first t zero = Nothing
 first t (suc n) = orElse (first t n) (cond (t n) (At n) Nothing)
 
--- it is i
+-- what was found is i
 abbrev pub isAt : Found → ℕ → Bool
 isAt (At k) i = eqb k i
 isAt Nothing i = false

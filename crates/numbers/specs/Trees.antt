@@ -1,5 +1,5 @@
--- Indices found by their keys in a tree. A place of the tree is empty, 0, or holds an index, as one more than it; each index has two
--- places below it.
+-- Indices found by their keys in a tree. A place of the tree holds 0 where it is empty, else one more than an index; each index has two places
+-- below it.
 use mathlib.Core.Path.{_≡_}
 use mathlib.Core.Bool.{Bool}
 use mathlib.Core.List.{List}
@@ -9,7 +9,7 @@ use lib.Dec.{eqb}
 use lib.ListN.{getD}
 use Rattle.numbers.specs.Folds.{last}
 
--- the key of each index; how many places are no index's; and where a key's walk starts: at one of these, with a number whose bits lead it on
+-- the key of each index; how many roots there are, which are places below no index; and for a key its root, and the number whose bits lead its walk
 pub record Keys : Type 0 where
   pub key : ℕ → ℕ
   pub roots : ℕ

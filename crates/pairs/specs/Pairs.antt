@@ -44,10 +44,10 @@ earlierOf s p i = last (pairing s p i) i
 abbrev pub least : ℕ → ℕ → ℕ
 least m n = cond (leb m n) m n
 
--- no section in which pairs are looked for may have more records
+-- how many records are looked at: no section of a file that has pairs is longer
 abbrev pub longest : ℕ
 longest = fileLimits .corrections
 
--- for each record, and 0 behind them
+-- for each of the records that are looked at; 0 in the places behind them
 abbrev pub earliersOf : List ℕ → Pair → List ℕ
 earliersOf s p = front (earlierOf s p) (replicate longest 0) (least longest (sizeOf s p))

@@ -28,7 +28,7 @@ fn scatter(key: u32) -> usize
     (key as usize) * 2_654_435_761 % 4_294_967_296
 }
 
-// A place of an array as an index.
+// A u16 as an index.
 fn wide(x: u16) -> usize
     ensures { λ r. ⌜ r ≡ x ⌝ }
 {

@@ -12,17 +12,17 @@ use Rattle.numbers.specs.Fractions.{_minus_, _times_, Within}
 use Rattle.numbers.proofs.Rounding.{nearest-near}
 use Rattle.numbers.proofs.Nearness.{near-scale, near-cancel, near-as, near-then}
 use Rattle.numbers.proofs.Fractions.{Close, close-more, close-rounded, close-whole, multiple-within}
-use Rattle.pricing.specs.Prices.{priceLimit}
-use Rattle.pricing.specs.Products.{products, find, sameCode}
+use Rattle.products.specs.Products.{priceLimit}
+use Rattle.products.specs.Products.{products, find, sameCode}
 use Rattle.pricing.specs.Value.{scale, billDividend, billDivisor, bondDivisor, valueBy, exactBy, exactOf}
 use Rattle.pricing.specs.Accuracy.{numberIn, accuracyFigures, accuracyOf}
-use Rattle.pricing.specs.declared.products.Code.{Code}
-use Rattle.pricing.specs.declared.products.Product.{Product}
-use Rattle.pricing.specs.declared.products.Found.the-variants.{At}
-use Rattle.pricing.specs.declared.products.Terms.{Terms}
-use Rattle.pricing.specs.declared.products.Terms.the-variants.{Bill, Bond, CashRate}
+use Rattle.products.specs.declared.table.Code.{Code}
+use Rattle.products.specs.declared.table.Product.{Product}
+use Rattle.products.specs.declared.table.Found.the-variants.{At}
+use Rattle.products.specs.declared.table.Terms.{Terms}
+use Rattle.products.specs.declared.table.Terms.the-variants.{Bill, Bond, CashRate}
 use Rattle.pricing.proofs.Distance.{ladder-distance}
-use Rattle.pricing.proofs.Table.{Every, of-found, found-code}
+use Rattle.products.proofs.Finding.{Every, of-found, found-code}
 use Rattle.pricing.proofs.Bounds.{scale-positive, bond-divisor, bill-divisor}
 use Rattle.pricing.proofs.Answers.{Listed, exact-of}
 

@@ -6,21 +6,21 @@ use native.Mathlib.Omega.{arith}
 use lib.Dec.{lit≤, T, leb, leb→le}
 use Rattle.numbers.specs.Nearness.{Near}
 use Rattle.numbers.proofs.Nearness.{near-cancel, near-as}
-use Rattle.pricing.specs.Products.{products, find, sameCode}
+use Rattle.products.specs.Products.{products, find, sameCode}
 use Rattle.pricing.specs.Ladder.{bracket, wholeBracket}
 use Rattle.pricing.specs.Value.{scale, bondDivisor}
 use Rattle.pricing.specs.Calls.{given, ofProduct, ofBond, judged, after, bracketOf}
 use Rattle.pricing.specs.Accuracy.{numberIn, bracketDistances, bracketDistanceOf}
-use Rattle.pricing.specs.declared.products.Code.{Code}
-use Rattle.pricing.specs.declared.products.Product.{Product}
-use Rattle.pricing.specs.declared.products.Found.{Found}
-use Rattle.pricing.specs.declared.products.Found.the-variants.{At, Missing}
-use Rattle.pricing.specs.declared.products.Terms.{Terms}
-use Rattle.pricing.specs.declared.products.Terms.the-variants.{Bill, Bond, CashRate}
+use Rattle.products.specs.declared.table.Code.{Code}
+use Rattle.products.specs.declared.table.Product.{Product}
+use Rattle.products.specs.declared.table.Found.{Found}
+use Rattle.products.specs.declared.table.Found.the-variants.{At, Missing}
+use Rattle.products.specs.declared.table.Terms.{Terms}
+use Rattle.products.specs.declared.table.Terms.the-variants.{Bill, Bond, CashRate}
 use Rattle.pricing.specs.declared.contract.Judged.{Judged}
 use Rattle.pricing.specs.declared.contract.Judged.the-variants.{Passed, Failed}
 use Rattle.pricing.proofs.Distance.{ladder-distance}
-use Rattle.pricing.proofs.Table.{Every, of-found, found-code}
+use Rattle.products.proofs.Finding.{Every, of-found, found-code}
 use Rattle.pricing.proofs.Bounds.{scale-positive, bond-divisor}
 use Rattle.pricing.proofs.Answers.{Listed, not-given, passed}
 use Rattle.pricing.proofs.Accuracy.{twiceDistance}

@@ -5,11 +5,12 @@ use native.Mathlib.Omega.{arith}
 use lib.Dec.{lit<, lit≤}
 use Rattle.numbers.specs.Rounding.{nearest}
 use Rattle.numbers.proofs.Rounding.{nearest-mono}
-use Rattle.pricing.specs.Prices.{par, priceLimit, yieldAt}
+use Rattle.products.specs.Products.{priceLimit}
+use Rattle.pricing.specs.Prices.{par, yieldAt}
 use Rattle.pricing.specs.Ladder.{base, firstFactor, factor, annuity, bracket}
 use Rattle.pricing.specs.Value.{scale, billDividend, billDivisor, bondDivisor, valueBy, StepsFit, Modest, valueCap}
-use Rattle.pricing.specs.declared.products.Terms.{Terms}
-use Rattle.pricing.specs.declared.products.Terms.the-variants.{Bill, Bond, CashRate}
+use Rattle.products.specs.declared.table.Terms.{Terms}
+use Rattle.products.specs.declared.table.Terms.the-variants.{Bill, Bond, CashRate}
 use Rattle.pricing.proofs.Factors.{first-below, factor-below, annuity-below}
 
 pub scale-positive : 0 < scale

@@ -2,21 +2,21 @@
 use mathlib.Core.Path.{_≡_, refl, sym, _∙_}
 use Prim.Native.Nat.{ℕ, _≤_, _<_}
 use native.Mathlib.Omega.{arith}
-use Rattle.pricing.specs.Prices.{priceLimit}
-use Rattle.pricing.specs.Products.{find}
+use Rattle.products.specs.Products.{priceLimit}
+use Rattle.products.specs.Products.{find}
 use Rattle.pricing.specs.Value.{Modest}
 use Rattle.pricing.specs.Calls.{Answer, ofProduct, judged, after}
 use Rattle.pricing.specs.Steps.{judgedProduct, checkIn, checkOf, ofChecked}
-use Rattle.pricing.specs.declared.products.Code.{Code}
-use Rattle.pricing.specs.declared.products.Product as table
-use Rattle.pricing.specs.declared.products.Terms.{Terms}
-use Rattle.pricing.specs.declared.products.Found.{Found}
-use Rattle.pricing.specs.declared.products.Found.the-variants.{At, Missing}
+use Rattle.products.specs.declared.table.Code.{Code}
+use Rattle.products.specs.declared.table.Product as table
+use Rattle.products.specs.declared.table.Terms.{Terms}
+use Rattle.products.specs.declared.table.Found.{Found}
+use Rattle.products.specs.declared.table.Found.the-variants.{At, Missing}
 use Rattle.pricing.specs.declared.contract.Judged.{Judged}
 use Rattle.pricing.specs.declared.contract.Judged.the-variants.{Passed, Failed}
 use Rattle.pricing.specs.declared.contract.Checked.{Checked}
 use Rattle.pricing.specs.declared.contract.Checked.the-variants.{Product}
-use Rattle.pricing.proofs.Table.{sound}
+use Rattle.pricing.proofs.Lines.{sound}
 use Rattle.pricing.proofs.Answers.{passed}
 
 -- terms and a tick of the table, at a price within the limit

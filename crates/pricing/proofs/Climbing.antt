@@ -5,10 +5,10 @@ use native.Mathlib.Nat.{mul-le-mul, le-trans, le-antisymm, mul-le-mul-right}
 use native.Mathlib.Numerals.{add-one}
 use native.Mathlib.Omega.{arith}
 use Rattle.numbers.specs.Rounding.{nearest}
-use Rattle.pricing.specs.Prices.{priceLimit}
+use Rattle.products.specs.Products.{priceLimit}
 use Rattle.pricing.specs.Ladder.{firstFactor, factor, annuity, bracket}
 use Rattle.pricing.specs.Value.{scale, bondDivisor, Modest}
-use Rattle.pricing.specs.declared.products.Terms.the-variants.{Bond}
+use Rattle.products.specs.declared.table.Terms.the-variants.{Bond}
 use Rattle.pricing.proofs.Factors.{factor-first, factor-next, annuity-none, annuity-next}
 use Rattle.pricing.proofs.Bounds.{factor-cap, annuity-cap, bracket-cap}
 

@@ -1,8 +1,7 @@
 pub mod Factors
 pub mod Distance
 pub mod Exact
-pub mod Table
-pub mod Months
+pub mod Lines
 pub mod Bounds
 pub mod Climbing
 pub mod Rise

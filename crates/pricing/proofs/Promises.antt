@@ -11,29 +11,41 @@ use lib.IntN.{ℤ, pos, natAbs, _*ℤ_, _-ℤ_}
 use Rattle.numbers.specs.Rounding.{nearest}
 use Rattle.numbers.specs.Nearness.{Near}
 use Rattle.numbers.specs.Fractions.{_minus_, _times_, Within, Same}
-use Rattle.numbers.proofs.Rounding.{nearest-scale}
-use Rattle.pricing.specs.Prices.{priceLimit, yieldAt}
-use Rattle.pricing.specs.Products.{find, hasMonth, monthsOf}
+use Rattle.numbers.proofs.Rounding.{nearest-scale, half-up}
+use Rattle.products.specs.Products.{priceLimit}
+use Rattle.pricing.specs.Prices.{yieldAt}
+use Rattle.products.specs.Products.{products, find, hasMonth, monthsOf}
 use Rattle.pricing.specs.Ladder.{base, factor, bracket, exactBracket, wholeBracket}
 use Rattle.pricing.specs.Value.{scale, billDividend, billDivisor, bondDivisor, valueBy, exactOf, valueCap, StepsFit}
 use Rattle.pricing.specs.Calls.{given, valueOf, tickValueOf, bracketOf}
 use Rattle.pricing.specs.Conditions.{valueFaults, tickValueFaults, bracketFaults, Exactly}
 use Rattle.pricing.specs.Accuracy.{bracketDistanceOf, accuracyOf}
-use Rattle.pricing.specs.declared.products.Code.{Code}
-use Rattle.pricing.specs.declared.products.Product.{Product}
-use Rattle.pricing.specs.declared.products.Found.the-variants.{At}
-use Rattle.pricing.specs.declared.products.Terms.{Terms}
-use Rattle.pricing.specs.declared.products.Terms.the-variants.{Bill, Bond}
+use Rattle.products.specs.declared.table.Code.{Code}
+use Rattle.products.specs.declared.table.Product.{Product}
+use Rattle.products.specs.declared.table.Found.the-variants.{At}
+use Rattle.products.specs.declared.table.Terms.{Terms}
+use Rattle.products.specs.declared.table.Terms.the-variants.{Bill, Bond}
 use Rattle.pricing.proofs.Distance as distance
 use Rattle.pricing.proofs.Exact as exact
-use Rattle.pricing.proofs.Table.{sound}
-use Rattle.pricing.proofs.Months as months
+use Rattle.pricing.proofs.Lines.{sound}
+use Rattle.products.proofs.Finding.{found-member, found-code}
+use Rattle.products.proofs.Months as months
 use Rattle.pricing.proofs.Bounds.{factor-cap, steps-fit-by, value-by-cap}
 use Rattle.pricing.proofs.Rise.{value-by-rises}
 use Rattle.pricing.proofs.Answers.{valued, gives-value, tick-valued}
 use Rattle.pricing.proofs.Accuracy.{product-accurate}
 use Rattle.pricing.proofs.Refusals as refusals
 use Rattle.pricing.proofs.Bonds.{bracketed, bracket-near}
+
+-- ---- rounding and the table
+
+-- "Rounded" is to the nearest whole number, a half going up: the number r with r − 1/2 ≤ x / d < r + 1/2.
+pub rounded : (x d : ℕ) → 0 < d → (2 * (nearest x d * d) ≤ 2 * x + d) × (2 * x < 2 * (nearest x d * d) + d)
+rounded x d h = half-up x d h
+
+-- The product that a code names is a line of the table with that code.
+pub found-line : (code : Code) {q : Product} → find code ≡ At q → List·Memᴰ q products × (q .code ≡ code)
+found-line code e = (found-member code e, found-code code e)
 
 -- ---- the ladder's distance
 

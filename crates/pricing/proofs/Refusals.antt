@@ -11,20 +11,20 @@ use Rattle.numbers.specs.declared.Found as found
 use Rattle.numbers.specs.declared.Found.the-variants as index
 use Rattle.numbers.proofs.Truth.{Tells, not-both, tells-not, tells-above, tells-divides}
 use Rattle.numbers.proofs.Order.{Finds, finds-whole, Decision, met, clear, pick, decision, met-exactly, clear-exactly}
-use Rattle.pricing.specs.Prices.{priceLimit}
-use Rattle.pricing.specs.Products.{find}
+use Rattle.products.specs.Products.{priceLimit}
+use Rattle.products.specs.Products.{find}
 use Rattle.pricing.specs.Ladder.{bracket}
 use Rattle.pricing.specs.Value.{scale, bondDivisor, valueBy}
 use Rattle.pricing.specs.Calls.{Answer, given, refused, check, ofProduct, ofBond, judged, after, valueOf, tickValueOf, bracketOf}
 use Rattle.pricing.specs.Conditions.{Fault, NoProduct, NoBond, AboveLimit, OffTick, NextAboveLimit, faultNumber, Holds, valueFaults, tickValueFaults, bracketFaults, Exactly}
-use Rattle.pricing.specs.declared.products.Code.{Code}
-use Rattle.pricing.specs.declared.products.Product.{Product}
-use Rattle.pricing.specs.declared.products.Found.{Found}
-use Rattle.pricing.specs.declared.products.Found.the-variants.{At, Missing}
-use Rattle.pricing.specs.declared.products.Terms.{Terms}
-use Rattle.pricing.specs.declared.products.Terms.the-variants.{Bill, Bond, CashRate}
+use Rattle.products.specs.declared.table.Code.{Code}
+use Rattle.products.specs.declared.table.Product.{Product}
+use Rattle.products.specs.declared.table.Found.{Found}
+use Rattle.products.specs.declared.table.Found.the-variants.{At, Missing}
+use Rattle.products.specs.declared.table.Terms.{Terms}
+use Rattle.products.specs.declared.table.Terms.the-variants.{Bill, Bond, CashRate}
 use Rattle.pricing.specs.declared.contract.Judged.the-variants.{Passed, Failed}
-use Rattle.pricing.proofs.Table.{tells-unlisted, tells-product}
+use Rattle.products.proofs.Finding.{tells-unlisted, tells-product}
 
 -- ---- the tests, by what a lookup found
 

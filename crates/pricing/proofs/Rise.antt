@@ -4,10 +4,11 @@ use native.Mathlib.Nat.{mul-le-mul-left, mul-le-mul-right, add-le-add, le-refl}
 use native.Mathlib.Omega.{arith}
 use lib.Dec.{lit<}
 use Rattle.numbers.proofs.Rounding.{nearest-mono}
-use Rattle.pricing.specs.Prices.{priceLimit, yieldAt}
+use Rattle.products.specs.Products.{priceLimit}
+use Rattle.pricing.specs.Prices.{yieldAt}
 use Rattle.pricing.specs.Value.{scale, billDivisor, bondDivisor, valueBy}
-use Rattle.pricing.specs.declared.products.Terms.{Terms}
-use Rattle.pricing.specs.declared.products.Terms.the-variants.{Bill, Bond, CashRate}
+use Rattle.products.specs.declared.table.Terms.{Terms}
+use Rattle.products.specs.declared.table.Terms.the-variants.{Bill, Bond, CashRate}
 use Rattle.pricing.proofs.Factors.{bracket-falls}
 use Rattle.pricing.proofs.Bounds.{scale-positive}
 

@@ -2,8 +2,8 @@
 use Prim.Native.Nat.{ℕ}
 use mathlib.Core.List.{List, [], _∷_}
 use mathlib.Core.Bool.{cond}
-use Rattle.pricing.specs.Products.{IR, BB, IB, YT, XT, XX, sameCode}
-use Rattle.pricing.specs.declared.products.Code.{Code}
+use Rattle.products.specs.Products.{IR, BB, IB, YT, XT, XX, sameCode}
+use Rattle.products.specs.declared.table.Code.{Code}
 
 -- a number for each of some codes
 pub record Entry : Type 0 where

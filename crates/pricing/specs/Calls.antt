@@ -2,16 +2,16 @@
 use Prim.Native.Nat.{ℕ, _+_, _-_, _%_}
 use mathlib.Core.Bool.{Bool, cond}
 use lib.Dec.{leb, eqb}
-use Rattle.pricing.specs.Prices.{priceLimit}
-use Rattle.pricing.specs.Products.{find}
+use Rattle.products.specs.Products.{priceLimit}
+use Rattle.products.specs.Products.{find}
 use Rattle.pricing.specs.Ladder.{bracket}
 use Rattle.pricing.specs.Value.{scale, bondDivisor, valueBy}
-use Rattle.pricing.specs.declared.products.Code.{Code}
-use Rattle.pricing.specs.declared.products.Product.{Product}
-use Rattle.pricing.specs.declared.products.Terms.{Terms}
-use Rattle.pricing.specs.declared.products.Terms.the-variants.{Bill, Bond, CashRate}
-use Rattle.pricing.specs.declared.products.Found.{Found}
-use Rattle.pricing.specs.declared.products.Found.the-variants.{At, Missing}
+use Rattle.products.specs.declared.table.Code.{Code}
+use Rattle.products.specs.declared.table.Product.{Product}
+use Rattle.products.specs.declared.table.Terms.{Terms}
+use Rattle.products.specs.declared.table.Terms.the-variants.{Bill, Bond, CashRate}
+use Rattle.products.specs.declared.table.Found.{Found}
+use Rattle.products.specs.declared.table.Found.the-variants.{At, Missing}
 use Rattle.pricing.specs.declared.contract.Judged.{Judged}
 use Rattle.pricing.specs.declared.contract.Judged.the-variants.{Passed, Failed}
 use Rattle.pricing.specs.declared.contract.Priced.{Priced}

@@ -4,17 +4,13 @@ use mathlib.Core.Path.{_≡_}
 use mathlib.Core.List.{List, [], _∷_, List·Memᴰ}
 use mathlib.Core.Logic.{_↔_}
 use Rattle.numbers.specs.Order.{Decides, Clear}
-use Rattle.pricing.specs.Prices.{priceLimit}
-use Rattle.pricing.specs.Products.{products, find}
+use Rattle.products.specs.Products.{priceLimit}
+use Rattle.products.specs.Products.{find, Unlisted}
 use Rattle.pricing.specs.Calls.{Answer, given, refused}
-use Rattle.pricing.specs.declared.products.Code.{Code}
-use Rattle.pricing.specs.declared.products.Product.{Product}
-use Rattle.pricing.specs.declared.products.Found.the-variants.{At}
-use Rattle.pricing.specs.declared.products.Terms.the-variants.{Bond}
-
--- no line of the product table has the code
-abbrev pub Unlisted : Code → Type 0
-Unlisted code = (q : Product) → List·Memᴰ q products → ¬ (q .code ≡ code)
+use Rattle.products.specs.declared.table.Code.{Code}
+use Rattle.products.specs.declared.table.Product.{Product}
+use Rattle.products.specs.declared.table.Found.the-variants.{At}
+use Rattle.products.specs.declared.table.Terms.the-variants.{Bond}
 
 pub data Fault : Type 0 where
   NoProduct : Fault

@@ -4,12 +4,13 @@ use mathlib.Core.Path.{_≡_, refl}
 use mathlib.Core.List.{List, [], _∷_, map}
 use Rattle.numbers.specs.Rounding.{nearest}
 use Rattle.numbers.specs.Sums.{sumTo}
-use Rattle.pricing.specs.Prices.{par, priceLimit, yieldAt}
-use Rattle.pricing.specs.Products.{IR, IB, YT, XT, XX, products, sameCode, findIn, find, hasMonth, monthsBelow, monthsOf}
+use Rattle.products.specs.Products.{priceLimit}
+use Rattle.pricing.specs.Prices.{par, yieldAt}
+use Rattle.products.specs.Products.{IR, IB, YT, XT, XX, products, sameCode, findIn, find, hasMonth, monthsBelow, monthsOf}
 use Rattle.pricing.specs.Ladder.{factor, annuity, bracket}
 use Rattle.pricing.specs.Value.{scale, billDividend, billDivisor, bondDivisor, valueBy}
 use Rattle.pricing.specs.Calls.{Answer, given, refused, judged, valueOf, tickValueOf, bracketOf}
-use Rattle.pricing.specs.declared.products.Code.{Code}
+use Rattle.products.specs.declared.table.Code.{Code}
 
 -- what is asked at a price: a value, a tick value, a bracket, or the ladder's Vk
 pub data Question : Type 0 where

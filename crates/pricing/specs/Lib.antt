@@ -1,5 +1,4 @@
 pub mod Prices
-pub mod Products
 pub mod Ladder
 pub mod Value
 pub mod Calls

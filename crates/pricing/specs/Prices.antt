@@ -5,10 +5,6 @@ use Prim.Native.Nat.{ℕ, _-_}
 unfoldable pub par : ℕ
 par = 1_000_000
 
--- the highest price
-unfoldable pub priceLimit : ℕ
-priceLimit = 1_000_000
-
 -- Y, for a price up to par
 unfoldable pub yieldAt : ℕ → ℕ
 yieldAt p = par - p

@@ -1,12 +1,12 @@
 -- Checks 4, 6 and 7 by themselves, as `check` makes them for `two_values` and `tick_value`. No caller of the crate sees these.
 use Prim.Native.Nat.{ℕ}
-use Rattle.pricing.specs.Products.{find}
+use Rattle.products.specs.Products.{find}
 use Rattle.pricing.specs.Calls.{Answer, refused, judged}
-use Rattle.pricing.specs.declared.products.Code.{Code}
-use Rattle.pricing.specs.declared.products.Product.{Product}
-use Rattle.pricing.specs.declared.products.Terms.{Terms}
-use Rattle.pricing.specs.declared.products.Found.{Found}
-use Rattle.pricing.specs.declared.products.Found.the-variants.{At, Missing}
+use Rattle.products.specs.declared.table.Code.{Code}
+use Rattle.products.specs.declared.table.Product.{Product}
+use Rattle.products.specs.declared.table.Terms.{Terms}
+use Rattle.products.specs.declared.table.Found.{Found}
+use Rattle.products.specs.declared.table.Found.the-variants.{At, Missing}
 use Rattle.pricing.specs.declared.contract.Judged.{Judged}
 use Rattle.pricing.specs.declared.contract.Judged.the-variants.{Passed, Failed}
 use Rattle.pricing.specs.declared.contract.Checked.{Checked}

@@ -3,13 +3,13 @@ use Prim.Native.Nat.{ℕ, _+_, _*_, _^_, _≤_, _<_}
 use Rattle.numbers.specs.Rounding.{nearest}
 use Rattle.numbers.specs.Fractions.{Fraction, wholly}
 use Rattle.pricing.specs.Prices.{yieldAt, hundredPercent}
-use Rattle.pricing.specs.Products.{find}
+use Rattle.products.specs.Products.{find}
 use Rattle.pricing.specs.Ladder.{base, firstFactor, factor, bracket, wholeBracket}
-use Rattle.pricing.specs.declared.products.Code.{Code}
-use Rattle.pricing.specs.declared.products.Found.{Found}
-use Rattle.pricing.specs.declared.products.Found.the-variants.{At, Missing}
-use Rattle.pricing.specs.declared.products.Terms.{Terms}
-use Rattle.pricing.specs.declared.products.Terms.the-variants.{Bill, Bond, CashRate}
+use Rattle.products.specs.declared.table.Code.{Code}
+use Rattle.products.specs.declared.table.Found.{Found}
+use Rattle.products.specs.declared.table.Found.the-variants.{At, Missing}
+use Rattle.products.specs.declared.table.Terms.{Terms}
+use Rattle.products.specs.declared.table.Terms.the-variants.{Bill, Bond, CashRate}
 
 -- one, in the units of the bond ladder: eight decimals
 unfoldable pub scale : ℕ
@@ -56,7 +56,7 @@ Modest (Bill face days) = (face ≤ 1_000_000) × (days ≤ 100)
 Modest (Bond face c n) = (face ≤ 100_000) × (c ≤ 3) × (1 ≤ n) × (n ≤ 40)
 Modest (CashRate cents) = cents ≤ 10_000
 
--- no product that a value is computed from, no dividend and no divisor leaves 63 bits
+-- no result of a multiplication on the way to a value, and no divisor, leaves 63 bits
 abbrev pub StepsFit : Terms → ℕ → Type 0
 StepsFit (Bill face days) p = (billDividend face < 2 ^ 63) × (billDivisor days p < 2 ^ 63)
 StepsFit (Bond face c n) p = ((k : ℕ) → factor scale (bondDivisor p) k * firstFactor scale (bondDivisor p) < 2 ^ 63) × (bracket scale c n (bondDivisor p) * face < 2 ^ 63)

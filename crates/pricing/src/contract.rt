@@ -6,14 +6,14 @@ ghost use Rattle.pricing.specs.Value.{scale, bondDivisor, Modest};
 ghost use Rattle.pricing.specs.Calls.{given, said, judged, after, ofBond, valueOf, tickValueOf, bracketOf};
 ghost use Rattle.pricing.specs.Steps.{checkOf};
 use crate::ladder::bracket_at;
-use crate::products::Code;
-use crate::products::Found;
-use crate::products::PRICE_LIMIT;
-use crate::products::Terms;
-use crate::products::lookup;
-use crate::products::off_tick;
 use crate::values::value_at;
 use crate::values::values_at;
+use products::Code;
+use products::Found;
+use products::PRICE_LIMIT;
+use products::Terms;
+use products::lookup;
+use products::off_tick;
 
 // The number asked for, or the number of the check that turns the call away.
 pub enum Priced {

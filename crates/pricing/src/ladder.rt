@@ -2,13 +2,15 @@
 ghost use mathlib.Core.Path.{_≡_};
 ghost use Prim.Native.Nat.{_+_, _*_, _≤_};
 ghost use Rattle.numbers.specs.Rounding.{nearest};
-ghost use Rattle.pricing.specs.Prices.{priceLimit};
+ghost use Rattle.products.specs.Products.{priceLimit};
 ghost use Rattle.pricing.specs.Ladder.{firstFactor, bracket};
 ghost use Rattle.pricing.specs.Value.{scale, bondDivisor};
-use crate::products::PAR;
 
 // One, in the units of the ladder.
 const SCALE: u64 = 100_000_000;
+
+// The price of yield 0, in units of 0.0001.
+pub(crate) const PAR: u64 = 1_000_000;
 
 // A yield of 200 per cent, which is 100 per cent for a half year.
 const BASE: u64 = 2_000_000;

@@ -1,14 +1,14 @@
 // The value of one contract in cents, by its terms, at a price within the limit.
 ghost use mathlib.Core.Path.{_≡_};
 ghost use Prim.Native.Nat.{_≤_};
-ghost use Rattle.pricing.specs.Prices.{priceLimit};
+ghost use Rattle.products.specs.Products.{priceLimit};
 ghost use Rattle.pricing.specs.Value.{Modest, valueBy};
+use crate::ladder::PAR;
 use crate::ladder::Two;
 use crate::ladder::bracket_at;
 use crate::ladder::brackets_at;
 use crate::ladder::descaled;
-use crate::products::PAR;
-use crate::products::Terms;
+use products::Terms;
 
 // A yield of 100 per cent.
 const HUNDRED_PERCENT: u64 = 1_000_000;

@@ -3,15 +3,17 @@ use mathlib.Core.Path.{_≡_, refl}
 use mathlib.Core.List.{List, _++_}
 use Prim.Native.Nat.{ℕ}
 use Rattle.numbers.specs.Rounding.{nearest}
-use Rattle.pricing.specs.Prices.{par, priceLimit, yieldAt}
-use Rattle.pricing.specs.Products.{products, sameCode, findIn, find, hasMonth}
+use Rattle.products.specs.Products.{priceLimit}
+use Rattle.pricing.specs.Prices.{par, yieldAt}
+use Rattle.products.specs.Products.{products, sameCode, findIn, find, hasMonth}
 use Rattle.pricing.specs.Value.{billDividend, billDivisor, valueBy}
 use Rattle.pricing.specs.Calls.{judged, valueOf}
-use Rattle.numbers.specs.Bytes.{u32At, u32Bytes, signed, recordsOf}
+use Rattle.numbers.specs.Bytes.{u32At, signed, recordsOf}
 use Rattle.numbers.specs.Folds.{first, some}
 use Rattle.dayfile.specs.Records.{markAt, correctionAt, positionAt}
-use Rattle.checks.specs.Products.{listed, quoted, tickOf}
-use Rattle.settlement.specs.Products.{currencyOf, worthOf}
+use Rattle.checks.specs.Table.{listed, quoted, tickOf}
+use Rattle.products.specs.Products.{currencyOf}
+use Rattle.settlement.specs.Worths.{worthOf}
 use Rattle.checks.specs.Checks.{verdictOf}
 use Rattle.dayfile.specs.Layout.{countsOf, openedOf}
 use Rattle.settlement.specs.Prices.{latestOf, finalOf, changeOf}
@@ -33,5 +35,5 @@ printed =
 
 -- with room for its amounts, and settled into a slice of one place
 pub case-prints : (sheetOf caseFile 4096 ≡ printed) × (sheetOf caseFile 1 ≡ ascii "refused 14 at 0\n")
-unfolding marks corrections positions caseFile printed nearest par priceLimit yieldAt products sameCode findIn find hasMonth billDividend billDivisor valueBy judged valueOf u32At signed recordsOf first some markAt correctionAt positionAt listed quoted tickOf currencyOf worthOf verdictOf countsOf openedOf latestOf finalOf changeOf amountOf totalOf planOf answerOf u32Bytes texts digitsWithin decimal signedDecimal lettersOf positionLine totalLine resentLine refusalLine answerText positionsText sheetOf
+unfolding marks corrections positions caseFile printed nearest par priceLimit yieldAt products sameCode findIn find hasMonth billDividend billDivisor valueBy judged valueOf u32At signed recordsOf first some markAt correctionAt positionAt listed quoted tickOf currencyOf worthOf verdictOf countsOf openedOf latestOf finalOf changeOf amountOf totalOf planOf answerOf texts digitsWithin decimal signedDecimal lettersOf positionLine totalLine resentLine refusalLine answerText positionsText sheetOf
 case-prints = (refl, refl)

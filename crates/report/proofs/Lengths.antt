@@ -7,11 +7,11 @@ use native.Mathlib.Omega.{arith}
 use lib.IntN.{ℤ, natAbs}
 use lib.ListN.{length, getD, length-append}
 use Rattle.text.proofs.Decimals.{decimal-length, signed-length}
-use Rattle.pricing.specs.declared.products.Currency.{Currency}
-use Rattle.pricing.specs.declared.products.Currency.the-variants.{Aud, Nzd}
+use Rattle.products.specs.declared.table.Currency.{Currency}
+use Rattle.products.specs.declared.table.Currency.the-variants.{Aud, Nzd}
 use Rattle.numbers.specs.Bytes.{Bytes, part, recordsOf}
 use Rattle.dayfile.specs.Records.{markOf, positionOf, marksIn, positionsIn, markAt, positionAt, markSize, positionSize}
-use Rattle.settlement.specs.Products.{currencyOf}
+use Rattle.products.specs.Products.{currencyOf}
 use Rattle.dayfile.specs.declared.records.Mark.{Mark}
 use Rattle.numbers.proofs.Bytes.{part-bytes}
 use Rattle.numbers.proofs.Sections.{record-here, record-past}

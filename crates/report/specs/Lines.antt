@@ -4,9 +4,9 @@ use mathlib.Core.List.{List, [], _∷_, _++_}
 use lib.IntN.{ℤ}
 use Rattle.text.specs.Ascii.{ascii}
 use Rattle.text.specs.Decimal.{decimal, signedDecimal}
-use Rattle.pricing.specs.declared.products.Currency.{Currency}
-use Rattle.pricing.specs.declared.products.Currency.the-variants.{Aud, Nzd}
-use Rattle.settlement.specs.Products.{currencyOf}
+use Rattle.products.specs.declared.table.Currency.{Currency}
+use Rattle.products.specs.declared.table.Currency.the-variants.{Aud, Nzd}
+use Rattle.products.specs.Products.{currencyOf}
 use Rattle.dayfile.specs.Records.{markAt, positionAt}
 use Rattle.dayfile.specs.declared.records.Mark.{Mark}
 use Rattle.dayfile.specs.declared.records.Position.{Position}

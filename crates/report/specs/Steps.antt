@@ -5,7 +5,7 @@ use mathlib.Core.List.{List, [], _∷_, _++_}
 use lib.IntN.{ℤ}
 use Rattle.text.specs.Decimal.{decimal, signedDecimal}
 use Rattle.text.specs.Writing.{texts}
-use Rattle.settlement.specs.Products.{currencyOf}
+use Rattle.products.specs.Products.{currencyOf}
 use Rattle.numbers.specs.Integers.{entryOf}
 use Rattle.dayfile.specs.Records.{Lists}
 use Rattle.settlement.specs.Settling.{Answer, settled, refused, Plan, paidBy, answerBy}

@@ -2,11 +2,11 @@
 ghost use mathlib.Core.List.{[], _∷_};
 ghost use Rattle.text.specs.Decimal.{decimal, signedDecimal};
 ghost use Rattle.text.specs.Writing.{Writes};
-ghost use Rattle.settlement.specs.Products.{currencyOf};
+ghost use Rattle.products.specs.Products.{currencyOf};
 ghost use Rattle.report.specs.Lines.{space, newline, ended, lettersOf};
-use pricing::Code;
-use pricing::Currency;
-use settlement::currency_of;
+use products::Code;
+use products::Currency;
+use products::currency_of;
 use text::write_byte;
 use text::write_decimal;
 use text::write_signed;

@@ -8,11 +8,11 @@ use lib.Dec.{ltb, eqb}
 use lib.IntN.{ℤ, pos, negsuc, negℤ}
 use lib.ListN.{length}
 use lib.Signed.{ltZ, _<ℤ_}
-use Rattle.pricing.specs.Prices.{priceLimit}
-use Rattle.pricing.specs.declared.products.Code.{Code}
+use Rattle.products.specs.Products.{priceLimit}
+use Rattle.products.specs.declared.table.Code.{Code}
 use Rattle.dayfile.specs.Limits.{yearLimit, lotsLimit}
 use Rattle.dayfile.specs.Records.{Lists, markAt, correctionAt, positionAt}
-use Rattle.checks.specs.Products.{aboveLimit, quoted}
+use Rattle.checks.specs.Table.{aboveLimit, quoted}
 use Rattle.numbers.specs.Integers.{isZero}
 use Rattle.pairs.specs.Pairs.{sameContract, contractPair}
 use Rattle.checks.specs.Faults.{offTick, clashing}

@@ -14,13 +14,13 @@ use Rattle.numbers.specs.Fractions.{_minus_, _times_, Within}
 use Rattle.pricing.specs.Calls.{given, valueOf}
 use Rattle.pricing.specs.Value.{exactOf}
 use Rattle.pricing.specs.Accuracy.{accuracyOf}
-use Rattle.pricing.specs.declared.products.Currency.the-variants.{Aud, Nzd}
+use Rattle.products.specs.declared.table.Currency.the-variants.{Aud, Nzd}
 use Rattle.numbers.specs.Bytes.{Bytes, u32At}
 use Rattle.numbers.specs.Folds.{sum, count, some}
 use Rattle.dayfile.specs.Limits.{Limits, fileLimits}
 use Rattle.dayfile.specs.Records.{correctionAt}
 use Rattle.dayfile.specs.Layout.{countsOf, listsOfFile}
-use Rattle.settlement.specs.Products.{currencyOf}
+use Rattle.products.specs.Products.{currencyOf}
 use Rattle.settlement.specs.Conditions.{reasonNumber, reasons, TurnedAway, NotTurnedAway}
 use Rattle.settlement.specs.Prices.{finalOf, FinalPrice, AllIn}
 use Rattle.checks.specs.Judging.{resentOf}
@@ -71,7 +71,7 @@ demand-2-accepted l f places = accepted-exactly l f places
 pub numbers-in-order : map reasonNumber reasons ≡ 1 ∷ 2 ∷ 3 ∷ 4 ∷ 5 ∷ 6 ∷ 7 ∷ 8 ∷ 9 ∷ 10 ∷ 11 ∷ 12 ∷ 13 ∷ 14 ∷ []
 numbers-in-order = refl
 
--- A file that is longer than one with as many records as the limits allow is refused with 2 or 3.
+-- A file that is longer than one with as many records as the limits allow, 24 + 12 times (256 + 512 + 4,096) bytes, is refused with 2 or 3.
 pub too-long : (f : List ℕ) (places : ℕ) → 58392 < length f → (answerOf fileLimits f places ≡ refused 2 0) ⊎ (answerOf fileLimits f places ≡ refused 3 0)
 unfolding answerOf planOf
 too-long f places h = ⊎-elim (λ e. inl (rw e)) (λ e. inr (rw e)) (opening.too-long f h)

@@ -1,20 +1,22 @@
--- Files that document 01 gives, settled by the definitions.
+-- Files settled by the definitions: those that document 01 gives, and one with two marks.
 use mathlib.Core.Path.{_≡_, refl}
 use mathlib.Core.List.{List, [], _∷_, _++_}
 use Prim.Native.Nat.{ℕ}
 use lib.IntN.{pos, negsuc}
 use lib.ListN.{replicate}
 use Rattle.numbers.specs.Rounding.{nearest}
-use Rattle.pricing.specs.Prices.{par, priceLimit, yieldAt}
-use Rattle.pricing.specs.Products.{products, sameCode, findIn, find, hasMonth}
+use Rattle.products.specs.Products.{priceLimit}
+use Rattle.pricing.specs.Prices.{par, yieldAt}
+use Rattle.products.specs.Products.{products, sameCode, findIn, find, hasMonth}
 use Rattle.pricing.specs.Value.{billDividend, billDivisor, valueBy}
 use Rattle.pricing.specs.Calls.{judged, valueOf}
 use Rattle.numbers.specs.Bytes.{u32At, signed, recordsOf, u32Bytes}
 use Rattle.numbers.specs.Folds.{first, some}
 use Rattle.dayfile.specs.Limits.{fileLimits}
 use Rattle.dayfile.specs.Records.{markAt, correctionAt, positionAt}
-use Rattle.checks.specs.Products.{listed, quoted, tickOf}
-use Rattle.settlement.specs.Products.{currencyOf, worthOf}
+use Rattle.checks.specs.Table.{listed, quoted, tickOf}
+use Rattle.products.specs.Products.{currencyOf}
+use Rattle.settlement.specs.Worths.{worthOf}
 use Rattle.checks.specs.Checks.{verdictOf}
 use Rattle.dayfile.specs.Layout.{countsOf, openedOf}
 use Rattle.settlement.specs.Prices.{latestOf, finalOf, changeOf}
@@ -23,19 +25,21 @@ use Rattle.dayfile.specs.Making.{countsIn, entryBytes, headerOf, madeOf}
 
 -- one mark IR, month 3, year 18, previous 950,000, today 950,200
 unfoldable pub marks : List ℕ
-marks = (73 ∷ 82 ∷ 3 ∷ 18 ∷ []) ++ u32Bytes 950000 ++ u32Bytes 950200
+marks = 73 ∷ 82 ∷ 3 ∷ 18 ∷ 240 ∷ 126 ∷ 14 ∷ 0 ∷ 184 ∷ 127 ∷ 14 ∷ 0 ∷ []
 
 -- the correction (7, mark 0, 950,100) twice
 unfoldable pub corrections : List ℕ
-corrections = u32Bytes 7 ++ u32Bytes 0 ++ u32Bytes 950100 ++ u32Bytes 7 ++ u32Bytes 0 ++ u32Bytes 950100
+corrections = 7 ∷ 0 ∷ 0 ∷ 0 ∷ 0 ∷ 0 ∷ 0 ∷ 0 ∷ 84 ∷ 127 ∷ 14 ∷ 0 ∷ 7 ∷ 0 ∷ 0 ∷ 0 ∷ 0 ∷ 0 ∷ 0 ∷ 0 ∷ 84 ∷ 127 ∷ 14 ∷ 0 ∷ []
 
 -- the positions (account 11, mark 0, lots 10) and (12, 0, −4)
 unfoldable pub positions : List ℕ
-positions = u32Bytes 11 ++ u32Bytes 0 ++ u32Bytes 10 ++ u32Bytes 12 ++ u32Bytes 0 ++ u32Bytes 4294967292
+positions = 11 ∷ 0 ∷ 0 ∷ 0 ∷ 0 ∷ 0 ∷ 0 ∷ 0 ∷ 10 ∷ 0 ∷ 0 ∷ 0 ∷ 12 ∷ 0 ∷ 0 ∷ 0 ∷ 0 ∷ 0 ∷ 0 ∷ 0 ∷ 252 ∷ 255 ∷ 255 ∷ 255 ∷ []
 
 -- the 84 bytes, with header numbers 1 24 2 36 2 60
 unfoldable pub caseFile : List ℕ
-caseFile = u32Bytes 1 ++ u32Bytes 24 ++ u32Bytes 2 ++ u32Bytes 36 ++ u32Bytes 2 ++ u32Bytes 60 ++ marks ++ corrections ++ positions
+caseFile =
+    (1 ∷ 0 ∷ 0 ∷ 0 ∷ 24 ∷ 0 ∷ 0 ∷ 0 ∷ 2 ∷ 0 ∷ 0 ∷ 0 ∷ 36 ∷ 0 ∷ 0 ∷ 0 ∷ 2 ∷ 0 ∷ 0 ∷ 0 ∷ 60 ∷ 0 ∷ 0 ∷ 0 ∷ [])
+    ++ marks ++ corrections ++ positions
 
 -- the file of the three lists is this one
 pub case-made : madeOf marks corrections positions ≡ caseFile
@@ -46,8 +50,24 @@ case-made = refl
 pub case-settled : (answerOf fileLimits caseFile 2 ≡ settled 2 (pos 14436) (pos 0) 1)
     × (amountsAfter fileLimits caseFile (pos 1 ∷ pos 2 ∷ pos 3 ∷ []) ≡ pos 24060 ∷ negsuc 9623 ∷ pos 3 ∷ [])
     × (answerOf fileLimits caseFile 1 ≡ refused 14 0)
-unfolding marks corrections positions caseFile nearest par priceLimit yieldAt products sameCode findIn find hasMonth billDividend billDivisor valueBy judged valueOf u32Bytes u32At signed recordsOf first some markAt correctionAt positionAt listed quoted tickOf currencyOf worthOf verdictOf countsOf openedOf latestOf finalOf changeOf amountOf totalOf planOf answerOf amountsAfter
+unfolding marks corrections positions caseFile nearest par priceLimit yieldAt products sameCode findIn find hasMonth billDividend billDivisor valueBy judged valueOf u32At signed recordsOf first some markAt correctionAt positionAt listed quoted tickOf currencyOf worthOf verdictOf countsOf openedOf latestOf finalOf changeOf amountOf totalOf planOf answerOf amountsAfter
 case-settled = (refl, refl, refl)
+
+-- Two marks, IR as above and BB 6 19 from 940,000 to 940,100, which no correction names; between two copies of the correction one with a lower
+-- number; and a position in each mark. The header numbers are 2 24 3 48 2 84.
+unfoldable pub twoMarks : List ℕ
+twoMarks =
+    (2 ∷ 0 ∷ 0 ∷ 0 ∷ 24 ∷ 0 ∷ 0 ∷ 0 ∷ 3 ∷ 0 ∷ 0 ∷ 0 ∷ 48 ∷ 0 ∷ 0 ∷ 0 ∷ 2 ∷ 0 ∷ 0 ∷ 0 ∷ 84 ∷ 0 ∷ 0 ∷ 0 ∷ [])
+    ++ (73 ∷ 82 ∷ 3 ∷ 18 ∷ 240 ∷ 126 ∷ 14 ∷ 0 ∷ 184 ∷ 127 ∷ 14 ∷ 0 ∷ 66 ∷ 66 ∷ 6 ∷ 19 ∷ 224 ∷ 87 ∷ 14 ∷ 0 ∷ 68 ∷ 88 ∷ 14 ∷ 0 ∷ [])
+    ++ (7 ∷ 0 ∷ 0 ∷ 0 ∷ 0 ∷ 0 ∷ 0 ∷ 0 ∷ 84 ∷ 127 ∷ 14 ∷ 0 ∷ 5 ∷ 0 ∷ 0 ∷ 0 ∷ 0 ∷ 0 ∷ 0 ∷ 0 ∷ 216 ∷ 130 ∷ 14 ∷ 0 ∷ [])
+    ++ (7 ∷ 0 ∷ 0 ∷ 0 ∷ 0 ∷ 0 ∷ 0 ∷ 0 ∷ 84 ∷ 127 ∷ 14 ∷ 0 ∷ [])
+    ++ (11 ∷ 0 ∷ 0 ∷ 0 ∷ 0 ∷ 0 ∷ 0 ∷ 0 ∷ 10 ∷ 0 ∷ 0 ∷ 0 ∷ 12 ∷ 0 ∷ 0 ∷ 0 ∷ 1 ∷ 0 ∷ 0 ∷ 0 ∷ 252 ∷ 255 ∷ 255 ∷ 255 ∷ [])
+
+-- the higher number decides, today's price stands where no correction does, and each currency has its own total
+pub two-marks-settled : (answerOf fileLimits twoMarks 2 ≡ settled 2 (pos 24060) (negsuc 9575) 1)
+    × (amountsAfter fileLimits twoMarks (pos 1 ∷ pos 2 ∷ []) ≡ pos 24060 ∷ negsuc 9575 ∷ [])
+unfolding twoMarks nearest par priceLimit yieldAt products sameCode findIn find hasMonth billDividend billDivisor valueBy judged valueOf u32At signed recordsOf first some markAt correctionAt positionAt listed quoted tickOf currencyOf worthOf verdictOf countsOf openedOf latestOf finalOf changeOf amountOf totalOf planOf answerOf amountsAfter
+two-marks-settled = (refl, refl)
 
 -- 23 bytes, and 24 bytes with counts 0 and offsets 24
 pub empty-settled : (answerOf fileLimits (replicate 23 0) 0 ≡ refused 1 0)

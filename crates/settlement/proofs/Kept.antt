@@ -11,9 +11,9 @@ use lib.ListN.{length, drop, List·getD-eq-default}
 use mir.Syntax.{w64}
 use mir.Val.{ofZ, toZ}
 use borrow.Author.Tests.{ltb-true, ltb-false}
-use Rattle.pricing.specs.declared.products.Currency.{Currency}
+use Rattle.products.specs.declared.table.Currency.{Currency}
 use Rattle.dayfile.specs.Limits.{fileLimits}
-use Rattle.settlement.specs.Products.{currencyOf}
+use Rattle.products.specs.Products.{currencyOf}
 use Rattle.numbers.specs.Folds.{sum}
 use Rattle.dayfile.specs.Records.{markAt, positionAt}
 use Rattle.settlement.specs.Settling.{keepOf, amountOf, shareOf, sumOfAmounts}

@@ -3,27 +3,27 @@ use mathlib.Core.Path.{_≡_, refl}
 use Prim.Native.Nat.{ℕ, _*_, _%_, _≤_, _∣_}
 use native.Mathlib.Omega.{arith}
 use Rattle.pricing.specs.Calls.{Answer, given, refused, said, valueOf}
-use Rattle.pricing.specs.Products.{find, monthsOf}
-use Rattle.pricing.specs.declared.products.Found.{Found}
-use Rattle.pricing.specs.declared.products.Found.the-variants.{At, Missing}
-use Rattle.pricing.specs.declared.products.Product.{Product}
+use Rattle.products.specs.Products.{find, monthsOf}
+use Rattle.products.specs.declared.table.Found.{Found}
+use Rattle.products.specs.declared.table.Found.the-variants.{At, Missing}
+use Rattle.products.specs.declared.table.Product.{Product}
 use Rattle.pricing.specs.declared.contract.Priced.{Priced}
-use Rattle.pricing.specs.declared.products.Code.{Code}
+use Rattle.products.specs.declared.table.Code.{Code}
 use Rattle.pricing.proofs.Promises as pricing
-use Rattle.pricing.proofs.Table.{tells-unlisted, tells-product}
-use Rattle.pricing.specs.Conditions.{Unlisted}
+use Rattle.products.proofs.Finding.{tells-unlisted, tells-product}
+use Rattle.products.specs.Products.{Unlisted}
 use native.Mathlib.Nat.{mod-one}
 use lib.Dec.{eqb}
 use mathlib.Core.Bool.{true, not}
 use mathlib.Core.List.{List·Memᴰ}
 use lib.IntN.{ℤ, pos, natAbs, _-ℤ_, _*ℤ_}
 use Rattle.numbers.specs.Fractions.{_minus_, _times_, Within}
-use Rattle.pricing.specs.Prices.{priceLimit}
+use Rattle.products.specs.Products.{priceLimit}
 use Rattle.pricing.specs.Value.{exactOf}
 use Rattle.pricing.specs.Accuracy.{accuracyOf}
 use Rattle.pricing.specs.Value.{valueCap}
-use Rattle.checks.specs.Products.{listed, listedIn, quoted, quotedIn, tickOf, tickIn}
-use Rattle.settlement.specs.Products.{orZero, worthOf}
+use Rattle.checks.specs.Table.{listed, listedIn, quoted, quotedIn, tickOf, tickIn}
+use Rattle.settlement.specs.Worths.{orZero, worthOf}
 use Rattle.settlement.specs.Conditions.{Quoted}
 use Rattle.numbers.proofs.Truth.{Tells, not-both, tells-not, tells-divides}
 

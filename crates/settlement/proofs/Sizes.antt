@@ -8,8 +8,8 @@ use lib.ListN.{length}
 use mir.Syntax.{w64}
 use mir.Val.{toZ, ofZ}
 use lib.IntN.{ℤ, natAbs, _*ℤ_}
-use Rattle.pricing.specs.declared.products.Currency.{Currency}
-use Rattle.pricing.specs.declared.products.Currency.the-variants.{Aud, Nzd}
+use Rattle.products.specs.declared.table.Currency.{Currency}
+use Rattle.products.specs.declared.table.Currency.the-variants.{Aud, Nzd}
 use Rattle.dayfile.specs.Limits.{lotsLimit, fileLimits}
 use Rattle.numbers.specs.Folds.{sum}
 use Rattle.dayfile.specs.Records.{positionAt}

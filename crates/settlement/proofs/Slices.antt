@@ -5,12 +5,12 @@ use Prim.Native.Nat.{ℕ, _≤_, _<_}
 use native.Mathlib.Omega.{arith}
 use lib.IntN.{ℤ, pos}
 use lib.ListN.{length, getD, drop}
-use Rattle.pricing.specs.declared.products.Currency.{Currency}
-use Rattle.pricing.specs.declared.products.Currency.the-variants.{Aud, Nzd}
+use Rattle.products.specs.declared.table.Currency.{Currency}
+use Rattle.products.specs.declared.table.Currency.the-variants.{Aud, Nzd}
 use Rattle.numbers.specs.Folds.{sum}
 use Rattle.dayfile.specs.Limits.{Limits}
 use Rattle.dayfile.specs.Layout.{listsOfFile}
-use Rattle.settlement.specs.Products.{currencyOf}
+use Rattle.products.specs.Products.{currencyOf}
 use Rattle.settlement.specs.Settling.{keepOf, amountOf, shareOf, totalOf, changeIn, markIn, settled, refused, totals, Plan, accept, refuse, answerBy, paidBy, planOf, answerOf, amountsAfter}
 use Rattle.numbers.proofs.Tables.{entry, length-front, drop-front}
 use Rattle.checks.proofs.Passed.{mark-in}

@@ -4,9 +4,9 @@ use mathlib.Core.List.{List, _++_}
 use Prim.Native.Nat.{ℕ, _<_}
 use lib.ListN.{length, drop}
 use lib.IntN.{ℤ, _*ℤ_, *ℤ-zero}
-use Rattle.pricing.specs.declared.products.Currency.{Currency}
-use Rattle.pricing.specs.declared.products.Currency.the-variants.{Aud, Nzd}
-use Rattle.settlement.specs.Products.{currencyOf}
+use Rattle.products.specs.declared.table.Currency.{Currency}
+use Rattle.products.specs.declared.table.Currency.the-variants.{Aud, Nzd}
+use Rattle.products.specs.Products.{currencyOf}
 use Rattle.numbers.specs.Folds.{front}
 use Rattle.dayfile.specs.Records.{Lists, markAt, positionAt}
 use Rattle.settlement.specs.Prices.{finalOf}

@@ -5,10 +5,10 @@ use Prim.Native.Nat.{ℕ, _%_, _≤_, _<_}
 use lib.IntN.{pos, _-ℤ_, _*ℤ_}
 use lib.ListN.{length}
 use borrow.Author.Tests.{ltb-false, eqb-true, not-false}
-use Rattle.pricing.specs.Prices.{priceLimit}
+use Rattle.products.specs.Products.{priceLimit}
 use Rattle.pricing.specs.Calls.{given, valueOf}
 use Rattle.dayfile.specs.Records.{Lists, markAt, correctionAt, positionAt}
-use Rattle.checks.specs.Products.{aboveLimit, listed, tickOf}
+use Rattle.checks.specs.Table.{aboveLimit, listed, tickOf}
 use Rattle.checks.specs.Faults.{offTick}
 use Rattle.checks.specs.Checks.{ruleOf, verdictOf}
 use Rattle.settlement.specs.Prices.{finalOf, changeOf, FinalPrice, corrected, uncorrected}

@@ -2,22 +2,22 @@
 use Prim.Native.Nat.{ℕ, _≤_, _<_, _∣_}
 use mathlib.Core.Path.{_≡_}
 use mathlib.Core.Logic.{_⊎_, _≢_}
-use mathlib.Core.List.{List, [], _∷_, _++_, map, List·Memᴰ}
+use mathlib.Core.List.{List, [], _∷_, List·Memᴰ}
 use lib.IntN.{pos, negℤ}
 use lib.Signed.{_<ℤ_}
 use lib.ListN.{length}
 use Rattle.numbers.specs.Order.{Decides, Clear}
-use Rattle.pricing.specs.Prices.{priceLimit}
-use Rattle.pricing.specs.Products.{find, monthsOf}
-use Rattle.pricing.specs.Conditions.{Unlisted}
-use Rattle.pricing.specs.declared.products.Code.{Code}
-use Rattle.pricing.specs.declared.products.Product.{Product}
-use Rattle.pricing.specs.declared.products.Found.the-variants.{At}
+use Rattle.products.specs.Products.{priceLimit}
+use Rattle.products.specs.Products.{find, monthsOf}
+use Rattle.products.specs.Products.{Unlisted}
+use Rattle.products.specs.declared.table.Code.{Code}
+use Rattle.products.specs.declared.table.Product.{Product}
+use Rattle.products.specs.declared.table.Found.the-variants.{At}
 use Rattle.numbers.specs.Bytes.{u32At}
 use Rattle.dayfile.specs.Limits.{Limits, yearLimit, lotsLimit}
 use Rattle.dayfile.specs.Records.{Lists, markAt, correctionAt, positionAt}
 use Rattle.dayfile.specs.Layout.{headerSize, countsOf, correctionsStart, positionsStart, lengthOf, listsOfFile}
-use Rattle.checks.specs.Checks.{numberOf, order}
+use Rattle.checks.specs.Checks.{numberOf}
 use Rattle.dayfile.specs.declared.records.Mark.{Mark}
 use Rattle.dayfile.specs.declared.records.Correction.{Correction}
 use Rattle.checks.specs.declared.order.Check.{Check}
@@ -112,7 +112,9 @@ reasonNumber Room = 14
 
 -- the order in which the checks run
 abbrev pub reasons : List Reason
-reasons = Short ∷ Counts ∷ Layout ∷ (map Record order ++ (Room ∷ []))
+reasons =
+    Short ∷ Counts ∷ Layout ∷ Record check.Code ∷ Record check.Date ∷ Record check.PriceLimit ∷ Record check.Tick ∷ Record check.MarkRepeated
+    ∷ Record check.CorrectionMark ∷ Record check.CorrectionPrice ∷ Record check.CorrectionClash ∷ Record check.PositionMark ∷ Record check.Lots ∷ Room ∷ []
 
 -- Check k turns the file away at the record i: its condition holds there and at no record before it, and no condition of a check
 -- that stands before it in the order holds at any record.

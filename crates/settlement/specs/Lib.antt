@@ -1,4 +1,4 @@
-pub mod Products
+pub mod Worths
 pub mod Conditions
 pub mod Prices
 pub mod Settling

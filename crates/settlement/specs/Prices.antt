@@ -7,7 +7,7 @@ use mathlib.Core.List.{List}
 use lib.Dec.{leb, eqb}
 use lib.IntN.{ℤ, pos, _-ℤ_}
 use lib.ListN.{length}
-use Rattle.settlement.specs.Products.{worthOf}
+use Rattle.settlement.specs.Worths.{worthOf}
 use Rattle.dayfile.specs.Records.{markAt, correctionAt}
 use Rattle.dayfile.specs.declared.records.Mark.{Mark}
 use Rattle.dayfile.specs.declared.records.Correction.{Correction}

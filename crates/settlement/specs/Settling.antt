@@ -5,9 +5,9 @@ use mathlib.Core.List.{List}
 use lib.Dec.{eqb, ltb}
 use lib.IntN.{ℤ, pos, _*ℤ_}
 use lib.ListN.{length}
-use Rattle.pricing.specs.declared.products.Currency.{Currency}
-use Rattle.pricing.specs.declared.products.Currency.the-variants.{Aud, Nzd}
-use Rattle.settlement.specs.Products.{currencyOf}
+use Rattle.products.specs.declared.table.Currency.{Currency}
+use Rattle.products.specs.declared.table.Currency.the-variants.{Aud, Nzd}
+use Rattle.products.specs.Products.{currencyOf}
 use Rattle.numbers.specs.Folds.{front, sum}
 use Rattle.dayfile.specs.Limits.{Limits}
 use Rattle.dayfile.specs.Records.{Lists, markAt, positionAt}

@@ -4,13 +4,13 @@ use Prim.Native.Nat.{ℕ, _≤_, _<_}
 use mathlib.Core.List.{List}
 use lib.IntN.{ℤ, pos, natAbs}
 use lib.ListN.{length, getD, replicate}
-use Rattle.pricing.specs.declared.products.Currency.{Currency}
+use Rattle.products.specs.declared.table.Currency.{Currency}
 use Rattle.numbers.specs.Folds.{front}
 use Rattle.numbers.specs.Integers.{entryOf}
 use Rattle.dayfile.specs.Limits.{fileLimits, lotsLimit}
 use Rattle.dayfile.specs.Records.{Lists, markAt, positionAt}
 use Rattle.dayfile.specs.Layout.{listsIn}
-use Rattle.settlement.specs.Products.{currencyOf}
+use Rattle.products.specs.Products.{currencyOf}
 use Rattle.checks.specs.Checks.{verdictOf}
 use Rattle.checks.specs.Judging.{resentOf}
 use Rattle.dayfile.specs.Steps.{LaidOut}

@@ -1,10 +1,10 @@
 // The amounts of the positions and the totals of the currencies, from the marks' changes in value.
-use crate::products;
 use dayfile::DayFile;
 use dayfile::mark_at;
 use dayfile::position_at;
 use dayfile::position_count;
-use pricing::Currency;
+use products::Currency;
+use products::currency_of;
 ghost use mathlib.Core.Path.{_≡_};
 ghost use Prim.Native.Nat.{_<_, _≤_};
 ghost use lib.IntN.{natAbs, _+ℤ_, _*ℤ_};
@@ -79,7 +79,7 @@ fn kept(marks: &[u8], a: &[i64; DayFile::MAX_MARKS], wanted: Currency) -> [i64; 
     let mut r = [0i64; DayFile::MAX_MARKS];
     let mut m = 0;
     while m < DayFile::MAX_MARKS {
-        r[m] = keep(wanted, products::currency_of(mark_at(marks, m).code), a[m]);
+        r[m] = keep(wanted, currency_of(mark_at(marks, m).code), a[m]);
         m += 1;
     }
     r

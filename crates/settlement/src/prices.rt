@@ -1,5 +1,5 @@
 // The final price of a mark, and its change in value.
-use crate::products;
+use crate::worths;
 use dayfile::Correction;
 use dayfile::DayFile;
 use dayfile::Mark;
@@ -96,7 +96,7 @@ fn change(marks: &[u8], l: Latest, i: usize) -> i64
     if price == m.previous {
         0
     } else {
-        let v = products::values(m.code, price, m.previous);
+        let v = worths::values(m.code, price, m.previous);
         difference(v.0, v.1)
     }
 }

@@ -6,7 +6,7 @@ use checks::Judged;
 use checks::judge;
 use dayfile::DayFile;
 use dayfile::position_count;
-use pricing::Currency;
+use products::Currency;
 ghost use mathlib.Core.Path.{_≡_};
 ghost use Prim.Native.Nat.{_≤_};
 ghost use lib.ListN.{length};

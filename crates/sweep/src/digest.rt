@@ -1,8 +1,8 @@
 // Digests of long lists of answers.
 ghost use Prim.Native.Nat.{_<_};
 use digests::digest_with;
-use pricing::Code;
 use pricing::Priced;
+use products::Code;
 
 // The digest h with an answer after it: the number given and a 0, or the number of the refusal and a 1.
 fn with_answer(h: u64, answer: Priced) -> u64 {

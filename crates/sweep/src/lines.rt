@@ -3,8 +3,8 @@ ghost use Prim.Native.Nat.{_<_};
 use io::print_decimal;
 use io::write_all;
 use libc::STDOUT_FILENO;
-use pricing::Code;
 use pricing::Priced;
+use products::Code;
 
 fn letters(code: Code) {
     write_all(STDOUT_FILENO, &[code.0, code.1]);

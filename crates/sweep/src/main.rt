@@ -4,7 +4,7 @@ mod digest;
 mod lines;
 
 ghost use Prim.Native.Nat.{_<_};
-use pricing::Code;
+use products::Code;
 
 // A product that is listed with the given tick: at every multiple of the tick, off the tick, and above the limit.
 fn product(code: Code, tick: u32)

@@ -1,6 +1,6 @@
 -- `bracket` meets its contract.
 use Rattle.pricing.specs.Calls.{bracketOf}
-use Rattle.pricing.proofs.Table.{sound}
+use Rattle.pricing.proofs.Lines.{sound}
 use borrow.Author.Needs.{needs}
 use Rattle.pricing.proofs.contract.bracket.Statement.{statement}
 use Rattle.pricing.proofs.contract.bracket.Tie as tie

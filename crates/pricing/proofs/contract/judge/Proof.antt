@@ -4,7 +4,7 @@ use mathlib.Core.Path.{sym, _∙_}
 use lib.Dec.{eqb}
 use borrow.Author.Needs.{needs}
 use borrow.Author.Tests.{le-leb, lt-leb, not-true, not-false}
-use Rattle.pricing.specs.Prices.{priceLimit}
+use Rattle.products.specs.Products.{priceLimit}
 use Rattle.pricing.specs.Calls.{judged}
 use Rattle.pricing.proofs.contract.judge.Statement.{statement}
 use Rattle.pricing.proofs.contract.judge.Tie as tie

@@ -4,10 +4,10 @@ use Prim.Native.Nat.{ℕ, _+_, _-_, _≤_, _<_}
 use native.Mathlib.Omega.{arith}
 use lib.Dec.{leb}
 use borrow.Author.Tests.{le-leb, lt-leb}
-use Rattle.pricing.specs.Prices.{priceLimit}
+use Rattle.products.specs.Products.{priceLimit}
 use Rattle.pricing.specs.Value.{valueBy}
 use Rattle.pricing.specs.Calls.{Answer, given, refused, check, tickValueOf}
-use Rattle.pricing.specs.declared.products.Terms.{Terms}
+use Rattle.products.specs.declared.table.Terms.{Terms}
 use Rattle.pricing.proofs.Rise.{value-by-rises}
 use Rattle.pricing.proofs.Checking.{allowed, by-checked}
 use borrow.Author.Needs.{needs}

@@ -1,6 +1,6 @@
 -- `value` meets its contract.
 use Rattle.pricing.specs.Calls.{valueOf}
-use Rattle.pricing.proofs.Table.{sound}
+use Rattle.pricing.proofs.Lines.{sound}
 use Rattle.pricing.proofs.Answers.{passed}
 use borrow.Author.Needs.{needs}
 use Rattle.pricing.proofs.contract.value.Statement.{statement}

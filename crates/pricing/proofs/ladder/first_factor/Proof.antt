@@ -1,7 +1,8 @@
 -- `first_factor` meets its contract.
 use borrow.Author.Needs.{needs}
 use native.Mathlib.Omega.{arith}
-use Rattle.pricing.specs.Prices.{par, priceLimit, yieldAt}
+use Rattle.products.specs.Products.{priceLimit}
+use Rattle.pricing.specs.Prices.{par, yieldAt}
 use Rattle.pricing.specs.Value.{scale, bondDivisor}
 use Rattle.pricing.proofs.ladder.first_factor.Statement.{statement}
 use Rattle.pricing.proofs.ladder.first_factor.Tie as tie

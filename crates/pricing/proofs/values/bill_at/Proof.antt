@@ -3,7 +3,8 @@ use Prim.Native.Nat.{_*_, _-_, _≤_}
 use native.Mathlib.Nat.{mul-le-mul}
 use native.Mathlib.Omega.{arith}
 use borrow.Author.Needs.{needs}
-use Rattle.pricing.specs.Prices.{par, priceLimit, yieldAt}
+use Rattle.products.specs.Products.{priceLimit}
+use Rattle.pricing.specs.Prices.{par, yieldAt}
 use Rattle.pricing.specs.Value.{billDividend, billDivisor, valueBy}
 use Rattle.pricing.proofs.values.bill_at.Statement.{statement}
 use Rattle.pricing.proofs.values.bill_at.Tie as tie

@@ -2,7 +2,7 @@
 use native.Mathlib.Nat.{mul-le-mul}
 use native.Mathlib.Omega.{arith}
 use borrow.Author.Needs.{needs}
-use Rattle.pricing.specs.Prices.{priceLimit}
+use Rattle.products.specs.Products.{priceLimit}
 use Rattle.pricing.specs.Value.{valueBy}
 use Rattle.pricing.proofs.values.cash_at.Statement.{statement}
 use Rattle.pricing.proofs.values.cash_at.Tie as tie

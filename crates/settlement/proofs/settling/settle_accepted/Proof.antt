@@ -2,7 +2,7 @@ use Rattle.dayfile.specs.Records.{marksIn, correctionsIn}
 use Rattle.settlement.specs.Prices.{finalOf}
 use Rattle.settlement.proofs.Changes.{bounded-as}
 use mathlib.Core.Path.{_∙_}
-use Rattle.pricing.specs.declared.products.Currency.the-variants.{Aud, Nzd}
+use Rattle.products.specs.declared.table.Currency.the-variants.{Aud, Nzd}
 use Rattle.numbers.proofs.Signed.{back}
 use Rattle.settlement.proofs.Accepted.{payable}
 use Rattle.settlement.proofs.Plans.{settled-by}

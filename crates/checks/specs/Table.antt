@@ -1,0 +1,38 @@
+-- What the checks ask of the product table, and the price limit.
+use Prim.Native.Nat.{ℕ}
+use mathlib.Core.Bool.{Bool, true, false}
+use lib.Dec.{ltb}
+use Rattle.products.specs.Products.{priceLimit}
+use Rattle.products.specs.Products.{find, hasMonth}
+use Rattle.products.specs.declared.table.Code.{Code}
+use Rattle.products.specs.declared.table.Found.{Found}
+use Rattle.products.specs.declared.table.Found.the-variants.{At, Missing}
+
+abbrev pub listedIn : Found → Bool
+listedIn (At q) = true
+listedIn Missing = false
+
+abbrev pub quotedIn : Found → ℕ → Bool
+quotedIn (At q) m = hasMonth q m
+quotedIn Missing m = false
+
+-- a tick, 1 where there is no product
+abbrev pub tickIn : Found → ℕ
+tickIn (At q) = q .tick
+tickIn Missing = 1
+
+-- a price is above the highest one
+abbrev pub aboveLimit : ℕ → Bool
+aboveLimit p = ltb priceLimit p
+
+-- the product table has the code
+unfoldable pub listed : Code → Bool
+listed a = listedIn (find a)
+
+-- a month is one of the product's
+unfoldable pub quoted : Code → ℕ → Bool
+quoted a m = quotedIn (find a) m
+
+-- the product's tick
+unfoldable pub tickOf : Code → ℕ
+tickOf a = tickIn (find a)
