@@ -3,7 +3,8 @@
  * and its sheet.
  *
  * Link with libffi.a, which `rt staticlib ffi` writes to target/staticlib. No function keeps what it is lent, allocates or
- * reads anything but its arguments. Every argument is answered: a call that cannot be met is refused with a check's number.
+ * reads anything but its arguments. Every argument is answered: a call that cannot be met is refused with a check's number, or, for
+ * the sheet, answered with 0.
  */
 #ifndef CITRONREEF_H
 #define CITRONREEF_H

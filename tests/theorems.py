@@ -139,7 +139,7 @@ def theorems():
         if isinstance(product.terms, Bond):
             check_ladder(code, product.terms, listed)
         check_value(code, product.terms, listed)
-    print("every promise holds")
+    print("every promise about one contract holds at these prices")
 
 
 if __name__ == "__main__":

@@ -5,7 +5,7 @@
 
 use citronreef::days::{damage_record, day_of};
 use citronreef::random::Random;
-use citronreef::records::{Day, MAX_CORRECTIONS};
+use citronreef::records::Day;
 use citronreef::{plain, settle};
 
 const FILES: usize = 1_000_000;
@@ -39,7 +39,6 @@ fn main() {
     let mut met = [0usize; 15];
     for _ in 0..FILES {
         let day = crowded(&mut random);
-        assert!(day.corrections.len() <= MAX_CORRECTIONS);
         let file = day.bytes();
         let (mut ours, mut theirs) = ([UNTOUCHED; PLACES], [UNTOUCHED; PLACES]);
         let answer = settle(&file, &mut ours);
@@ -47,5 +46,6 @@ fn main() {
         assert_eq!(ours, theirs, "file {file:?}");
         met[answer.map_or_else(|refusal| refusal.number as usize, |_| 0)] += 1;
     }
+    assert!(met[0] > 0 && met[8] > 0 && met[11] > 0, "no file was accepted, or none met check 8 or 11: {met:?}");
     println!("{FILES} files agree; accepted {}, refused by check 8 {}, by check 11 {}", met[0], met[8], met[11]);
 }

@@ -30,7 +30,7 @@ use Rattle.dayfile.specs.declared.records.Mark.{Mark}
 use Rattle.dayfile.specs.declared.records.Correction.{Correction}
 use Rattle.dayfile.proofs.Opening as opening
 use Rattle.dayfile.proofs.Parts.{marks-sized, corrections-sized, positions-sized}
-use Rattle.settlement.proofs.Pricing as pricing
+use Rattle.pricing.proofs.Promises as promises
 use Rattle.settlement.proofs.Corrections as corrections
 use Rattle.numbers.proofs.Counting as counting
 use Rattle.settlement.proofs.FinalPrices as prices
@@ -106,13 +106,13 @@ module _ (l : Limits) (f : List ℕ) (a : List ℤ) {n k : ℕ} {aud nzd : ℤ} 
       (accuracyOf (markIn f i .code) (previousIn f i) (finalIn f i) * natAbs (positionIn f i .lots))
   demand-3-accuracy =
       let (v, w, p, q, r) = amount-by-values in
-      rw r (pricing.accurate (markIn f i .code) (previousIn f i) (finalIn f i) p q (positionIn f i .lots))
+      rw r (promises.accurate (markIn f i .code) (previousIn f i) (finalIn f i) p q (positionIn f i .lots))
 
   -- After a rise the amount is at least 0 for positive lots and at most 0 for negative ones.
   pub demand-3-rise : previousIn f i ≤ finalIn f i → (pos 0 ≤ℤ positionIn f i .lots → pos 0 ≤ℤ amount) × (positionIn f i .lots ≤ℤ pos 0 → amount ≤ℤ pos 0)
   demand-3-rise up =
       let (v, w, p, q, r) = amount-by-values in
-      rw (r, difference-is v w (pricing.worth-rises (markIn f i .code) up p q)) (keeps-above (positionIn f i .lots) (w - v), keeps-below (positionIn f i .lots) (w - v))
+      rw (r, difference-is v w (promises.value-rises (markIn f i .code) up p q)) (keeps-above (positionIn f i .lots) (w - v), keeps-below (positionIn f i .lots) (w - v))
 
   -- With equal prices it is 0.
   pub demand-3-no-change : previousIn f i ≡ finalIn f i → amount ≡ pos 0

@@ -1,6 +1,6 @@
 -- What settlement knows of the pricing part: laws that it exports.
 use mathlib.Core.Path.{_≡_, refl}
-use Prim.Native.Nat.{ℕ, _*_, _%_, _≤_, _∣_}
+use Prim.Native.Nat.{ℕ, _%_, _≤_, _∣_}
 use native.Mathlib.Omega.{arith}
 use Rattle.pricing.specs.Calls.{Answer, given, refused, said, valueOf}
 use Rattle.products.specs.Products.{find, monthsOf}
@@ -16,11 +16,7 @@ use native.Mathlib.Nat.{mod-one}
 use lib.Dec.{eqb}
 use mathlib.Core.Bool.{true, not}
 use mathlib.Core.List.{List·Memᴰ}
-use lib.IntN.{ℤ, pos, natAbs, _-ℤ_, _*ℤ_}
-use Rattle.numbers.specs.Fractions.{_minus_, _times_, Within}
 use Rattle.products.specs.Products.{priceLimit}
-use Rattle.pricing.specs.Value.{exactOf}
-use Rattle.pricing.specs.Accuracy.{accuracyOf}
 use Rattle.pricing.specs.Value.{valueCap}
 use Rattle.checks.specs.Table.{listed, listedIn, quoted, quotedIn, tickOf, tickIn}
 use Rattle.settlement.specs.Worths.{orZero, worthOf}
@@ -68,10 +64,3 @@ valued a p h low on = by-found (find a) refl h on
 pub worth-is : (a : Code) (p : ℕ) {n : ℕ} → valueOf a p ≡ given n → worthOf a p ≡ n
 unfolding worthOf
 worth-is a p e = rw e
-
-pub worth-rises : (a : Code) {p q m n : ℕ} → p ≤ q → valueOf a p ≡ given m → valueOf a q ≡ given n → m ≤ n
-worth-rises a h e f = pricing.value-rises a h e f
-
-pub accurate : (a : Code) (previous final : ℕ) {m n : ℕ} → valueOf a previous ≡ given m → valueOf a final ≡ given n → (lots : ℤ)
-    → Within (pos 1000 *ℤ (lots *ℤ (pos n -ℤ pos m))) (pos 1000 times lots times (exactOf a final minus exactOf a previous)) (accuracyOf a previous final * natAbs lots)
-accurate a previous final e f lots = pricing.accurate a previous final e f lots
