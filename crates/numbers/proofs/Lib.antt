@@ -19,3 +19,4 @@ pub mod Signed
 pub mod Signs
 pub mod SignedSums
 pub mod Fractions
+pub mod Distances

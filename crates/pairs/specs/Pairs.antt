@@ -44,7 +44,7 @@ earlierOf s p i = last (pairing s p i) i
 abbrev pub least : ℕ → ℕ → ℕ
 least m n = cond (leb m n) m n
 
--- how many records are looked at: no section of a file that has pairs is longer
+-- how many records are looked at: a file within the limits never has more marks or corrections
 abbrev pub longest : ℕ
 longest = fileLimits .corrections
 

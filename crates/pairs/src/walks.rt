@@ -13,7 +13,7 @@ ghost use Rattle.numbers.specs.Trees.{nodeOf, WalkOf, Grown};
 ghost use Rattle.pairs.specs.Pairs.{longest, least, earliersOf};
 ghost use Rattle.pairs.specs.Keys.{roots, scattered, keysOf};
 
-// No section in which pairs are looked for may have more records.
+// How many records of a section are looked at: a file within the limits never has more marks or corrections.
 pub const LONGEST: usize = DayFile::MAX_CORRECTIONS;
 
 const ROOTS: usize = 4_096;

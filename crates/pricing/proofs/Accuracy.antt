@@ -12,8 +12,7 @@ use Rattle.numbers.specs.Fractions.{_minus_, _times_, Within}
 use Rattle.numbers.proofs.Rounding.{nearest-near}
 use Rattle.numbers.proofs.Nearness.{near-scale, near-cancel, near-as, near-then}
 use Rattle.numbers.proofs.Fractions.{Close, close-more, close-rounded, close-whole, multiple-within}
-use Rattle.products.specs.Products.{priceLimit}
-use Rattle.products.specs.Products.{products, find, sameCode}
+use Rattle.products.specs.Products.{priceLimit, products, find, sameCode}
 use Rattle.pricing.specs.Value.{scale, billDividend, billDivisor, bondDivisor, valueBy, exactBy, exactOf}
 use Rattle.pricing.specs.Accuracy.{numberIn, accuracyFigures, accuracyOf}
 use Rattle.products.specs.declared.table.Code.{Code}

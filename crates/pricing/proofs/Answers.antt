@@ -5,8 +5,7 @@ use Prim.Native.Nat.{ℕ, _+_, _-_, _%_, _≤_}
 use native.Mathlib.Omega.{arith}
 use borrow.Author.Tests.{le-leb, eq-eqb, leb-true, eqb-true}
 use lib.Dec.{leb, eqb}
-use Rattle.products.specs.Products.{priceLimit}
-use Rattle.products.specs.Products.{find}
+use Rattle.products.specs.Products.{priceLimit, find}
 use Rattle.pricing.specs.Value.{valueBy, exactBy, exactOf}
 use Rattle.pricing.specs.Calls.{Answer, given, refused, check, ofProduct, judged, after, valueOf, tickValueOf}
 use Rattle.products.specs.declared.table.Code.{Code}

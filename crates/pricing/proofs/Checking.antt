@@ -2,8 +2,7 @@
 use mathlib.Core.Path.{_≡_, refl, sym, _∙_}
 use Prim.Native.Nat.{ℕ, _≤_, _<_}
 use native.Mathlib.Omega.{arith}
-use Rattle.products.specs.Products.{priceLimit}
-use Rattle.products.specs.Products.{find}
+use Rattle.products.specs.Products.{priceLimit, find}
 use Rattle.pricing.specs.Value.{Modest}
 use Rattle.pricing.specs.Calls.{Answer, ofProduct, judged, after}
 use Rattle.pricing.specs.Steps.{judgedProduct, checkIn, checkOf, ofChecked}

@@ -1,6 +1,6 @@
 -- What is promised of one contract. Open this file first: each law is stated here in the terms of specs/, its argument stands in the file it cites.
 use mathlib.Core.Bool.{true}
-use mathlib.Core.List.{List·Memᴰ}
+use mathlib.Core.List.{[], _∷_, map, List·Memᴰ}
 use mathlib.Core.Logic.{_↔_}
 use mathlib.Core.Path.{_≡_, refl, sym, ap, _∙_}
 use Prim.Native.Nat.{ℕ, _+_, _*_, _-_, _%_, _^_, _≤_, _<_}
@@ -10,21 +10,20 @@ use lib.Dec.{lit≤}
 use lib.IntN.{ℤ, pos, natAbs, _*ℤ_, _-ℤ_}
 use Rattle.numbers.specs.Rounding.{nearest}
 use Rattle.numbers.specs.Nearness.{Near}
-use Rattle.numbers.specs.Fractions.{_minus_, _times_, Within, Same}
+use Rattle.numbers.specs.Fractions.{scaled, _minus_, _times_, Within, Same}
 use Rattle.numbers.proofs.Rounding.{nearest-scale, half-up}
-use Rattle.products.specs.Products.{priceLimit}
+use Rattle.products.specs.Products.{priceLimit, products, sameCode, find, hasMonth, monthsOf}
 use Rattle.pricing.specs.Prices.{yieldAt}
-use Rattle.products.specs.Products.{products, find, hasMonth, monthsOf}
 use Rattle.pricing.specs.Ladder.{base, factor, bracket, exactBracket, wholeBracket}
-use Rattle.pricing.specs.Value.{scale, billDividend, billDivisor, bondDivisor, valueBy, exactOf, valueCap, StepsFit}
+use Rattle.pricing.specs.Value.{scale, billDividend, billDivisor, bondDivisor, valueBy, exactBy, exactOf, valueCap, StepsFit}
 use Rattle.pricing.specs.Calls.{given, valueOf, tickValueOf, bracketOf}
-use Rattle.pricing.specs.Conditions.{valueFaults, tickValueFaults, bracketFaults, Exactly}
-use Rattle.pricing.specs.Accuracy.{bracketDistanceOf, accuracyOf}
+use Rattle.pricing.specs.Conditions.{faultNumber, valueFaults, tickValueFaults, bracketFaults, Exactly}
+use Rattle.pricing.specs.Accuracy.{numberIn, bracketDistances, bracketDistanceOf, accuracyFigures, accuracyOf}
 use Rattle.products.specs.declared.table.Code.{Code}
 use Rattle.products.specs.declared.table.Product.{Product}
 use Rattle.products.specs.declared.table.Found.the-variants.{At}
 use Rattle.products.specs.declared.table.Terms.{Terms}
-use Rattle.products.specs.declared.table.Terms.the-variants.{Bill, Bond}
+use Rattle.products.specs.declared.table.Terms.the-variants.{Bill, Bond, CashRate}
 use Rattle.pricing.proofs.Distance as distance
 use Rattle.pricing.proofs.Exact as exact
 use Rattle.pricing.proofs.Lines.{sound}
@@ -32,7 +31,7 @@ use Rattle.products.proofs.Finding.{found-member, found-code}
 use Rattle.products.proofs.Months as months
 use Rattle.pricing.proofs.Bounds.{factor-cap, steps-fit-by, value-by-cap}
 use Rattle.pricing.proofs.Rise.{value-by-rises}
-use Rattle.pricing.proofs.Answers.{valued, gives-value, tick-valued}
+use Rattle.pricing.proofs.Answers.{valued, gives-value, tick-valued, exact-of}
 use Rattle.pricing.proofs.Accuracy.{product-accurate}
 use Rattle.pricing.proofs.Refusals as refusals
 use Rattle.pricing.proofs.Bonds.{bracketed, bracket-near}
@@ -73,6 +72,10 @@ bracket-distance code p {c} {n} {q} f t e =
 
 -- ---- refusals
 
+-- The checks of each call stand in the order of their numbers.
+pub numbers-in-order : (map faultNumber valueFaults ≡ 4 ∷ 6 ∷ 7 ∷ []) × (map faultNumber tickValueFaults ≡ 4 ∷ 6 ∷ 7 ∷ 15 ∷ []) × (map faultNumber bracketFaults ≡ 4 ∷ 6 ∷ 7 ∷ [])
+numbers-in-order = (refl, refl, refl)
+
 -- Each call is turned away with a number exactly where that check's condition holds and no earlier one does, and answers exactly where none holds.
 pub value-exactly : (code : Code) (p : ℕ) → Exactly code p valueFaults (valueOf code p)
 value-exactly = refusals.value-exactly
@@ -108,6 +111,42 @@ tick-value-adds code p {q = q} f e =
       gives-value code (p + q .tick) f (record { within = g; on-tick = add-mod-right p (q .tick) ∙ h .on-tick }) ∙ ap given (omega arith),
     )
 
+-- A bond's value is the bracket that is given, times face and divided by 10^8, rounded.
+pub value-by-bracket : (code : Code) (p : ℕ) {b face c n : ℕ} {q : Product} → find code ≡ At q → q .terms ≡ Bond face c n → bracketOf code p ≡ given b
+    → valueOf code p ≡ given (nearest (b * face) 100_000_000)
+unfolding valueBy scale
+value-by-bracket code p {b} {face} {c} {n} {q} f t e =
+    let h = bracketed code p e in
+    let g = h .found in
+    let u = h .terms in
+    let same : h .product ≡ q = cc in
+    let same-c : h .coupon ≡ c = cc in
+    let same-n : h .halves ≡ n = cc in
+    let is : bracket scale c n (bondDivisor p) ≡ b = rw (← same-c, ← same-n) (h .is) in
+    gives-value code p f (rw (← same) (h .listed)) ∙ ap given (rw (t, is))
+
+-- ---- the exact value: the formula without any rounding
+
+-- of a bill, and of a cash rate contract
+pub exact-bill : (p : ℕ) → Same (exactBy (Bill 1_000_000 90) p) (record { num = 3_650_000_000_000_000; den = 36_500_000 + 9 * yieldAt p })
+unfolding exactBy billDividend billDivisor
+exact-bill p = record { proper = (omega arith, omega arith); same = omega arith }
+
+pub exact-cash : (p : ℕ) → exactBy (CashRate 2_466) p ≡ record { num = 2_466 * p; den = 100 }
+unfolding exactBy
+exact-cash p = refl
+
+-- of a bond: the exact bracket times face
+pub exact-bond : (face c n p : ℕ) → Same (exactBy (Bond face c n) p) (scaled face (exactBracket c n (bondDivisor p)))
+unfolding exactBy bondDivisor
+exact-bond face c n p =
+    let s = exact-bracket c n (yieldAt p) in
+    record { proper = (s .proper .1, s .proper .0); same = omega (arith, ap (λ (t : ℕ). t * face) (s .same)) }
+
+-- of the product that a code names
+pub exact-named : (code : Code) (p : ℕ) {q : Product} → find code ≡ At q → exactOf code p ≡ exactBy (q .terms) p
+exact-named code p f = exact-of code p f
+
 -- ---- accuracy
 
 -- For any lots and any two prices at which values are given: 1,000 times lots times the difference of the values lies within the product's figure
@@ -120,6 +159,15 @@ accurate code previous final e f lots =
     let k = valued code final f in
     let same : k .product ≡ h .product = let g = h .found in let g' = k .found in cc in
     product-accurate code previous final (h .found) (h .listed) (rw (← same) (k .listed)) (h .is) (rw (← same) (k .is)) lots
+
+-- The figures of the six products, whatever the prices, and the distances of their brackets.
+pub figures-are : (previous final : ℕ) → map (λ q. accuracyOf (q .code) previous final) products ≡ 1_000 ∷ 1_000 ∷ 0 ∷ 2_208 ∷ 6_100 ∷ 6_550 ∷ []
+unfolding products accuracyOf accuracyFigures numberIn sameCode
+figures-are previous final = refl
+
+pub distances-are : map (λ q. bracketDistanceOf (q .code)) products ≡ 0 ∷ 0 ∷ 0 ∷ 604 ∷ 2_550 ∷ 5_550 ∷ []
+unfolding products bracketDistances numberIn sameCode
+distances-are = refl
 
 -- ---- sizes
 

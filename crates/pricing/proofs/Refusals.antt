@@ -11,8 +11,7 @@ use Rattle.numbers.specs.declared.Found as found
 use Rattle.numbers.specs.declared.Found.the-variants as index
 use Rattle.numbers.proofs.Truth.{Tells, not-both, tells-not, tells-above, tells-divides}
 use Rattle.numbers.proofs.Order.{Finds, finds-whole, Decision, met, clear, pick, decision, met-exactly, clear-exactly}
-use Rattle.products.specs.Products.{priceLimit}
-use Rattle.products.specs.Products.{find}
+use Rattle.products.specs.Products.{priceLimit, find}
 use Rattle.pricing.specs.Ladder.{bracket}
 use Rattle.pricing.specs.Value.{scale, bondDivisor, valueBy}
 use Rattle.pricing.specs.Calls.{Answer, given, refused, check, ofProduct, ofBond, judged, after, valueOf, tickValueOf, bracketOf}

@@ -4,8 +4,7 @@ use mathlib.Core.Path.{_≡_}
 use mathlib.Core.List.{List, [], _∷_, List·Memᴰ}
 use mathlib.Core.Logic.{_↔_}
 use Rattle.numbers.specs.Order.{Decides, Clear}
-use Rattle.products.specs.Products.{priceLimit}
-use Rattle.products.specs.Products.{find, Unlisted}
+use Rattle.products.specs.Products.{priceLimit, find, Unlisted}
 use Rattle.pricing.specs.Calls.{Answer, given, refused}
 use Rattle.products.specs.declared.table.Code.{Code}
 use Rattle.products.specs.declared.table.Product.{Product}

@@ -1,16 +1,16 @@
--- The marked figures of document 01: one table of questions and answers, and one claim that the definitions answer so.
+-- The marked figures of document 01: one table of questions and answers, and one claim that the definitions answer so. Then some more.
 use Prim.Native.Nat.{ℕ}
 use mathlib.Core.Path.{_≡_, refl}
 use mathlib.Core.List.{List, [], _∷_, map}
 use Rattle.numbers.specs.Rounding.{nearest}
 use Rattle.numbers.specs.Sums.{sumTo}
-use Rattle.products.specs.Products.{priceLimit}
+use Rattle.products.specs.Products.{priceLimit, IR, BB, IB, YT, XT, XX, products, sameCode, findIn, find, currencyOf, hasMonth, monthsBelow, monthsOf}
 use Rattle.pricing.specs.Prices.{par, yieldAt}
-use Rattle.products.specs.Products.{IR, IB, YT, XT, XX, products, sameCode, findIn, find, hasMonth, monthsBelow, monthsOf}
 use Rattle.pricing.specs.Ladder.{factor, annuity, bracket}
 use Rattle.pricing.specs.Value.{scale, billDividend, billDivisor, bondDivisor, valueBy}
 use Rattle.pricing.specs.Calls.{Answer, given, refused, judged, valueOf, tickValueOf, bracketOf}
 use Rattle.products.specs.declared.table.Code.{Code}
+use Rattle.products.specs.declared.table.Currency.the-variants.{Aud, Nzd}
 
 -- what is asked at a price: a value, a tick value, a bracket, or the ladder's Vk
 pub data Question : Type 0 where
@@ -62,6 +62,31 @@ figures =
 pub figures-hold : map (λ f. answerTo (f .question)) figures ≡ map (λ f. f .answer) figures
 unfolding figures answerTo nearest sumTo par priceLimit yieldAt products sameCode findIn find factor annuity bracket scale billDividend billDivisor bondDivisor valueBy judged valueOf tickValueOf bracketOf
 figures-hold = refl
+
+-- Figures that document 01 does not mark, worked by the calculator: a longer ladder, each product's tick, and the order of the checks.
+unfoldable pub further : List Figure
+further =
+    (bracketAt XT 950_000 gives given 10_779_458_755)
+    ∷ (valueAt XT 950_000 gives given 10_779_459)
+    ∷ (bracketAt XX 955_000 gives given 9_345_161_716)
+    ∷ (valueAt XX 955_000 gives given 4_672_581)
+    ∷ (tickValueAt BB 940_000 gives given 2_394)
+    ∷ (tickValueAt YT 950_000 gives given 1_399)
+    ∷ (tickValueAt XT 950_000 gives given 4_081)
+    ∷ (tickValueAt XX 955_000 gives given 3_134)
+    ∷ (tickValueAt IR 999_900 gives given 2_466)
+    ∷ (tickValueAt IR 999_950 gives refused 7 0)
+    ∷ (bracketAt IR 1_000_001 gives refused 4 0)
+    ∷ []
+
+pub further-hold : map (λ f. answerTo (f .question)) further ≡ map (λ f. f .answer) further
+unfolding further answerTo nearest sumTo par priceLimit yieldAt products sameCode findIn find factor annuity bracket scale billDividend billDivisor bondDivisor valueBy judged valueOf tickValueOf bracketOf
+further-hold = refl
+
+-- the currencies of the six lines
+pub currencies-hold : map (λ q. currencyOf (q .code)) products ≡ Aud ∷ Nzd ∷ Aud ∷ Aud ∷ Aud ∷ Aud ∷ []
+unfolding products sameCode findIn find currencyOf
+currencies-hold = refl
 
 -- the months of the six lines
 pub months-hold : map monthsOf products ≡ (3 ∷ 6 ∷ 9 ∷ 12 ∷ []) ∷ (3 ∷ 6 ∷ 9 ∷ 12 ∷ []) ∷ (1 ∷ 2 ∷ 3 ∷ 4 ∷ 5 ∷ 6 ∷ 7 ∷ 8 ∷ 9 ∷ 10 ∷ 11 ∷ 12 ∷ [])

@@ -10,8 +10,7 @@ use lib.Dec.{eqb}
 use lib.ListN.{length, getD, drop}
 use lib.Seq.{drop-cons}
 use Rattle.numbers.proofs.Truth.{Tells, and-left, and-right, not-both, tells-as}
-use Rattle.products.specs.Products.{products, noProduct, sameCode, findIn, find}
-use Rattle.products.specs.Products.{Unlisted}
+use Rattle.products.specs.Products.{products, noProduct, sameCode, findIn, find, Unlisted}
 use Rattle.products.specs.declared.table.Code.{Code}
 use Rattle.products.specs.declared.table.Product.{Product}
 use Rattle.products.specs.declared.table.Found.{Found}

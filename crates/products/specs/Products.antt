@@ -27,7 +27,7 @@ quarterly = monthBits (3 ∷ 6 ∷ 9 ∷ 12 ∷ [])
 abbrev pub monthly : ℕ
 monthly = monthBits (1 ∷ 2 ∷ 3 ∷ 4 ∷ 5 ∷ 6 ∷ 7 ∷ 8 ∷ 9 ∷ 10 ∷ 11 ∷ 12 ∷ [])
 
--- the codes: two ASCII letters
+-- the codes: two capital ASCII letters (B 66, I 73, R 82, T 84, X 88, Y 89)
 abbrev pub IR : Code
 IR = (73, 82)
 

@@ -3,9 +3,9 @@
 -- places, and `amountsAfter l f a` the slice afterwards that was a before: the contract of `settle` says that its answer and its slice are these,
 -- for the limits `fileLimits`.
 use mathlib.Core.Path.{_≡_, refl, sym, _∙_}
-use mathlib.Core.List.{List, [], _∷_, map}
-use mathlib.Core.Logic.{_⊎_, inl, inr, ⊎-elim, _↔_}
-use Prim.Native.Nat.{ℕ, _+_, _*_, _-_, _≤_, _<_}
+use mathlib.Core.List.{List, [], _∷_, _++_, map, List·Memᴰ}
+use mathlib.Core.Logic.{_⊎_, inl, inr, ⊎-elim, _↔_, _≢_}
+use Prim.Native.Nat.{ℕ, suc, _+_, _*_, _-_, _≤_, _<_}
 use lib.Dec.{eqb}
 use lib.IntN.{ℤ, pos, natAbs, _-ℤ_, _*ℤ_, +ℤ-invr, *ℤ-zero}
 use lib.Signed.{_≤ℤ_}
@@ -18,14 +18,16 @@ use Rattle.products.specs.declared.table.Currency.the-variants.{Aud, Nzd}
 use Rattle.numbers.specs.Bytes.{Bytes, u32At}
 use Rattle.numbers.specs.Folds.{sum, count, some}
 use Rattle.dayfile.specs.Limits.{Limits, fileLimits}
-use Rattle.dayfile.specs.Records.{correctionAt}
+use Rattle.dayfile.specs.Records.{markAt, correctionAt}
 use Rattle.dayfile.specs.Layout.{countsOf, listsOfFile}
 use Rattle.products.specs.Products.{currencyOf}
 use Rattle.settlement.specs.Conditions.{reasonNumber, reasons, TurnedAway, NotTurnedAway}
 use Rattle.settlement.specs.Prices.{finalOf, FinalPrice, AllIn}
 use Rattle.checks.specs.Judging.{resentOf}
 use Rattle.settlement.specs.Settling.{keepOf, positionIn, markIn, previousIn, finalIn, Answer, settled, refused, totals, planOf, answerOf, amountsAfter}
+use Rattle.settlement.specs.Prices.FinalPrice.{corrected, uncorrected}
 use Rattle.settlement.specs.Resend.{SentAgain, correctionRecords, Resent}
+use Rattle.settlement.specs.Resend.SentAgain.{end, kept, copy}
 use Rattle.dayfile.specs.declared.records.Mark.{Mark}
 use Rattle.dayfile.specs.declared.records.Correction.{Correction}
 use Rattle.dayfile.proofs.Opening as opening
@@ -128,6 +130,17 @@ pub demand-3-resend : (l : Limits) (f g : List ℕ) (copies n k : ℕ) (aud nzd 
     → (answerOf l g (length b) ≡ settled n aud nzd (k + copies)) × (take n (amountsAfter l g b) ≡ take n (amountsAfter l f a))
 demand-3-resend l f g copies n k aud nzd a b = resending.resend l f g copies n k aud nzd a b
 
+-- Corrections sent again: none at first, and one copy more may stand anywhere.
+pub sent-none : {base : List (List ℕ)} (cs : List (List ℕ)) → SentAgain base cs cs 0
+sent-none [] = end
+sent-none (c ∷ cs) = kept (sent-none cs)
+
+pub sent-anywhere : {base cs : List (List ℕ)} (xs ys : List (List ℕ)) {c : List ℕ} {k : ℕ} → List·Memᴰ c base → SentAgain base cs (xs ++ ys) k
+    → SentAgain base cs (xs ++ (c ∷ ys)) (suc k)
+sent-anywhere [] ys m s = copy m s
+sent-anywhere (x ∷ xs) ys m (kept s) = kept (sent-anywhere xs ys m s)
+sent-anywhere (x ∷ xs) ys m (copy n s) = copy n (sent-anywhere xs ys m s)
+
 -- There is such a file for every list of corrections sent again within the limit, of bytes where f is, so the claim is not an empty one.
 pub resent-exists : (f : List ℕ) (ds : List (List ℕ)) (copies n k : ℕ) (aud nzd : ℤ) (a : List ℤ) → answerOf fileLimits f (length a) ≡ settled n aud nzd k
     → SentAgain (correctionRecords f) (correctionRecords f) ds copies → length ds ≤ fileLimits .corrections
@@ -152,6 +165,17 @@ module _ (l : Limits) (f : List ℕ) (places : ℕ) {n k : ℕ} {aud nzd : ℤ} 
   one-final-price m p d =
       let ls = listsOfFile f in
       prices.one-final (ls .marks) (ls .corrections) (corrections.apart (ls .marks) (ls .positions) (ls .corrections) (settled-accepted l f places e .passed)) m d (prices.final-price-is (ls .marks) (ls .corrections) m)
+
+  -- A correction with the highest number of those that name its mark decides, wherever it stands; where none names it, today's price stands.
+  pub highest-decides : (k : ℕ) → k < length (listsOfFile f .corrections)
+      → ((j : ℕ) → j < length (listsOfFile f .corrections) → correctionAt (listsOfFile f .corrections) j .mark ≡ correctionAt (listsOfFile f .corrections) k .mark
+      → correctionAt (listsOfFile f .corrections) j .number ≤ correctionAt (listsOfFile f .corrections) k .number)
+      → finalOf (listsOfFile f .marks) (listsOfFile f .corrections) (correctionAt (listsOfFile f .corrections) k .mark) ≡ correctionAt (listsOfFile f .corrections) k .price
+  highest-decides k h top = sym (one-final-price _ _ (corrected k h refl refl top))
+
+  pub uncorrected-stands : (m : ℕ) → ((k : ℕ) → k < length (listsOfFile f .corrections) → correctionAt (listsOfFile f .corrections) k .mark ≢ m)
+      → finalOf (listsOfFile f .marks) (listsOfFile f .corrections) m ≡ markAt (listsOfFile f .marks) m .today
+  uncorrected-stands m none = sym (one-final-price _ _ (uncorrected none refl))
 
   pub same-corrections-same-prices : (ds : List Correction) → AllIn (listsOfFile f .corrections) ds → AllIn ds (listsOfFile f .corrections)
       → finalOf (listsOfFile f .marks) ds ≡ finalOf (listsOfFile f .marks) (listsOfFile f .corrections)

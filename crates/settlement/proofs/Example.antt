@@ -5,9 +5,8 @@ use Prim.Native.Nat.{ℕ}
 use lib.IntN.{pos, negsuc}
 use lib.ListN.{replicate}
 use Rattle.numbers.specs.Rounding.{nearest}
-use Rattle.products.specs.Products.{priceLimit}
+use Rattle.products.specs.Products.{priceLimit, products, sameCode, findIn, find, currencyOf, hasMonth}
 use Rattle.pricing.specs.Prices.{par, yieldAt}
-use Rattle.products.specs.Products.{products, sameCode, findIn, find, hasMonth}
 use Rattle.pricing.specs.Value.{billDividend, billDivisor, valueBy}
 use Rattle.pricing.specs.Calls.{judged, valueOf}
 use Rattle.numbers.specs.Bytes.{u32At, signed, recordsOf, u32Bytes}
@@ -15,7 +14,6 @@ use Rattle.numbers.specs.Folds.{first, some}
 use Rattle.dayfile.specs.Limits.{fileLimits}
 use Rattle.dayfile.specs.Records.{markAt, correctionAt, positionAt}
 use Rattle.checks.specs.Table.{listed, quoted, tickOf}
-use Rattle.products.specs.Products.{currencyOf}
 use Rattle.settlement.specs.Worths.{worthOf}
 use Rattle.checks.specs.Checks.{verdictOf}
 use Rattle.dayfile.specs.Layout.{countsOf, openedOf}
@@ -69,8 +67,12 @@ pub two-marks-settled : (answerOf fileLimits twoMarks 2 ≡ settled 2 (pos 24060
 unfolding twoMarks nearest par priceLimit yieldAt products sameCode findIn find hasMonth billDividend billDivisor valueBy judged valueOf u32At signed recordsOf first some markAt correctionAt positionAt listed quoted tickOf currencyOf worthOf verdictOf countsOf openedOf latestOf finalOf changeOf amountOf totalOf planOf answerOf amountsAfter
 two-marks-settled = (refl, refl)
 
+-- a count of 0 and an offset of 24
+unfoldable pub noRecords : List ℕ
+noRecords = 0 ∷ 0 ∷ 0 ∷ 0 ∷ 24 ∷ 0 ∷ 0 ∷ 0 ∷ []
+
 -- 23 bytes, and 24 bytes with counts 0 and offsets 24
 pub empty-settled : (answerOf fileLimits (replicate 23 0) 0 ≡ refused 1 0)
-    × (answerOf fileLimits (u32Bytes 0 ++ u32Bytes 24 ++ u32Bytes 0 ++ u32Bytes 24 ++ u32Bytes 0 ++ u32Bytes 24) 0 ≡ settled 0 (pos 0) (pos 0) 0)
-unfolding u32Bytes u32At recordsOf first verdictOf countsOf openedOf totalOf planOf answerOf
+    × (answerOf fileLimits (noRecords ++ noRecords ++ noRecords) 0 ≡ settled 0 (pos 0) (pos 0) 0)
+unfolding noRecords u32At recordsOf first verdictOf countsOf openedOf totalOf planOf answerOf
 empty-settled = (refl, refl)

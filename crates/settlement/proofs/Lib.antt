@@ -1,5 +1,6 @@
 pub mod Demands
 pub mod Example
+pub mod Answers
 pub mod Refusals
 pub mod Agreement
 pub mod Slices

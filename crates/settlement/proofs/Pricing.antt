@@ -3,7 +3,7 @@ use mathlib.Core.Path.{_≡_, refl}
 use Prim.Native.Nat.{ℕ, _%_, _≤_, _∣_}
 use native.Mathlib.Omega.{arith}
 use Rattle.pricing.specs.Calls.{Answer, given, refused, said, valueOf}
-use Rattle.products.specs.Products.{find, monthsOf}
+use Rattle.products.specs.Products.{find, monthsOf, Unlisted, priceLimit}
 use Rattle.products.specs.declared.table.Found.{Found}
 use Rattle.products.specs.declared.table.Found.the-variants.{At, Missing}
 use Rattle.products.specs.declared.table.Product.{Product}
@@ -11,12 +11,10 @@ use Rattle.pricing.specs.declared.contract.Priced.{Priced}
 use Rattle.products.specs.declared.table.Code.{Code}
 use Rattle.pricing.proofs.Promises as pricing
 use Rattle.products.proofs.Finding.{tells-unlisted, tells-product}
-use Rattle.products.specs.Products.{Unlisted}
 use native.Mathlib.Nat.{mod-one}
 use lib.Dec.{eqb}
 use mathlib.Core.Bool.{true, not}
 use mathlib.Core.List.{List·Memᴰ}
-use Rattle.products.specs.Products.{priceLimit}
 use Rattle.pricing.specs.Value.{valueCap}
 use Rattle.checks.specs.Table.{listed, listedIn, quoted, quotedIn, tickOf, tickIn}
 use Rattle.settlement.specs.Worths.{orZero, worthOf}

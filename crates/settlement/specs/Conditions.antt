@@ -7,9 +7,7 @@ use lib.IntN.{pos, negℤ}
 use lib.Signed.{_<ℤ_}
 use lib.ListN.{length}
 use Rattle.numbers.specs.Order.{Decides, Clear}
-use Rattle.products.specs.Products.{priceLimit}
-use Rattle.products.specs.Products.{find, monthsOf}
-use Rattle.products.specs.Products.{Unlisted}
+use Rattle.products.specs.Products.{priceLimit, find, monthsOf, Unlisted}
 use Rattle.products.specs.declared.table.Code.{Code}
 use Rattle.products.specs.declared.table.Product.{Product}
 use Rattle.products.specs.declared.table.Found.the-variants.{At}

@@ -1,0 +1,110 @@
+-- A file for each check, and files just inside its bounds, answered by the definitions. In each the second record of a section is the one that
+-- is looked at.
+use mathlib.Core.Path.{_≡_, refl}
+use mathlib.Core.List.{List, [], _∷_, _++_, map}
+use Prim.Native.Nat.{ℕ}
+use lib.IntN.{pos, negsuc}
+use Rattle.numbers.specs.Rounding.{nearest}
+use Rattle.numbers.specs.Bytes.{u32At, signed, recordsOf, u32Bytes}
+use Rattle.numbers.specs.Folds.{first, some}
+use Rattle.products.specs.Products.{priceLimit, IR, BB, IB, products, sameCode, findIn, find, currencyOf, hasMonth}
+use Rattle.pricing.specs.Prices.{par, yieldAt}
+use Rattle.pricing.specs.Value.{billDividend, billDivisor, valueBy}
+use Rattle.pricing.specs.Calls.{judged, valueOf}
+use Rattle.dayfile.specs.Limits.{fileLimits}
+use Rattle.dayfile.specs.Records.{markAt, correctionAt, positionAt}
+use Rattle.dayfile.specs.Layout.{countsOf, openedOf}
+use Rattle.dayfile.specs.Making.{countsIn, entryBytes, headerOf, madeOf}
+use Rattle.checks.specs.Table.{listed, quoted, tickOf}
+use Rattle.checks.specs.Checks.{verdictOf}
+use Rattle.settlement.specs.Worths.{worthOf}
+use Rattle.settlement.specs.Prices.{latestOf, finalOf, changeOf}
+use Rattle.settlement.specs.Settling.{amountOf, totalOf, Answer, settled, refused, planOf, answerOf}
+use Rattle.products.specs.declared.table.Code.{Code}
+
+-- the bytes of a number, the lowest first
+pub bytes-are : (u32Bytes 950100 ≡ 84 ∷ 127 ∷ 14 ∷ 0 ∷ []) × (u32Bytes 4294967292 ≡ 252 ∷ 255 ∷ 255 ∷ 255 ∷ [])
+unfolding u32Bytes
+bytes-are = (refl, refl)
+
+-- a mark; and a correction, number, mark and price, or a position, account, mark and lots
+abbrev markOf : Code → ℕ → ℕ → ℕ → ℕ → List ℕ
+markOf a month year previous today = (a .0 ∷ a .1 ∷ month ∷ year ∷ []) ++ u32Bytes previous ++ u32Bytes today
+
+abbrev three : ℕ → ℕ → ℕ → List ℕ
+three a b c = u32Bytes a ++ u32Bytes b ++ u32Bytes c
+
+-- a file of two records in each section, the second ones as given
+abbrev pub fileOf : List ℕ → List ℕ → List ℕ → List ℕ
+fileOf m c p = madeOf (markOf IR 3 18 950000 950200 ++ m) (three 7 0 950100 ++ c) (three 11 0 10 ++ p)
+
+-- second records that pass; the lots are −4
+abbrev m : List ℕ
+m = markOf BB 6 19 940000 940100
+
+abbrev c : List ℕ
+c = three 5 0 951000
+
+abbrev p : List ℕ
+p = three 12 1 4294967292
+
+-- a file whose second position names no mark
+abbrev pub noMark : List ℕ
+noMark = fileOf m c (three 12 2 4294967292)
+
+-- a header of six numbers, and nothing behind it
+abbrev header : ℕ → ℕ → ℕ → ℕ → ℕ → ℕ → List ℕ
+header a b c d e f = three a b c ++ three d e f
+
+pub record Answered : Type 0 where
+  pub file : List ℕ
+  pub answer : Answer
+
+infix 4 _answers_
+abbrev _answers_ : List ℕ → Answer → Answered
+f answers a = record { file = f; answer = a }
+
+unfoldable pub files : List Answered
+files =
+    -- counts at their limits pass 2 and fail 3; one more fails 2; so does an offset that is not the layout's fail 3
+    (header 256 24 512 24 4096 24 answers refused 3 0)
+    ∷ (header 257 24 0 24 0 24 answers refused 2 0)
+    ∷ (header 0 24 513 24 0 24 answers refused 2 0)
+    ∷ (header 0 24 0 24 4097 24 answers refused 2 0)
+    ∷ (header 0 25 0 24 0 24 answers refused 3 0)
+    ∷ (header 0 24 0 25 0 24 answers refused 3 0)
+    ∷ (header 0 24 0 24 0 25 answers refused 3 0)
+    -- marks: the code, the month, the year, each price above the limit, each price off its tick, one contract twice
+    ∷ (fileOf (markOf (66, 67) 6 19 940000 940100) c p answers refused 4 1)
+    ∷ (fileOf (markOf BB 7 19 940000 940100) c p answers refused 5 1)
+    ∷ (fileOf (markOf BB 6 100 940000 940100) c p answers refused 5 1)
+    ∷ (fileOf (markOf BB 6 19 1000100 940100) c p answers refused 6 1)
+    ∷ (fileOf (markOf BB 6 19 940000 1000100) c p answers refused 6 1)
+    ∷ (fileOf (markOf BB 6 19 940050 940100) c p answers refused 7 1)
+    ∷ (fileOf (markOf BB 6 19 940000 940150) c p answers refused 7 1)
+    ∷ (fileOf (markOf IR 3 18 940000 940100) c p answers refused 8 1)
+    -- corrections: no mark, a price above the limit or off its tick, one number with another mark or price
+    ∷ (fileOf m (three 5 2 951000) p answers refused 9 1)
+    ∷ (fileOf m (three 5 0 1000100) p answers refused 10 1)
+    ∷ (fileOf m (three 5 0 951050) p answers refused 10 1)
+    ∷ (fileOf m (three 7 1 950100) p answers refused 11 1)
+    ∷ (fileOf m (three 7 0 951000) p answers refused 11 1)
+    -- positions: no mark, no lots, too many either way
+    ∷ (noMark answers refused 12 1)
+    ∷ (fileOf m c (three 12 1 0) answers refused 13 1)
+    ∷ (fileOf m c (three 12 1 1000001) answers refused 13 1)
+    ∷ (fileOf m c (three 12 1 4293967295) answers refused 13 1)
+    -- what passes: the last year, another year or month of a code, another code, the most lots either way, a price at the limit
+    ∷ (fileOf m c p answers settled 2 (pos 24060) (negsuc 9575) 0)
+    ∷ (fileOf (markOf BB 6 99 940000 940100) c p answers settled 2 (pos 24060) (negsuc 9575) 0)
+    ∷ (fileOf (markOf IR 3 19 940000 940100) c p answers settled 2 (pos 14484) (pos 0) 0)
+    ∷ (fileOf (markOf IR 6 18 940000 940100) c p answers settled 2 (pos 14484) (pos 0) 0)
+    ∷ (fileOf (markOf IB 3 18 940000 940100) c p answers settled 2 (pos 14196) (pos 0) 0)
+    ∷ (fileOf m c (three 12 1 1000000) answers settled 2 (pos 24060) (pos 2394000000) 0)
+    ∷ (fileOf m c (three 12 1 4293967296) answers settled 2 (pos 24060) (negsuc 2393999999) 0)
+    ∷ (fileOf (markOf BB 6 19 1000000 1000000) c p answers settled 2 (pos 24060) (pos 0) 0)
+    ∷ []
+
+pub files-answered : map (λ x. answerOf fileLimits (x .file) 2) files ≡ map (λ x. x .answer) files
+unfolding files nearest par priceLimit yieldAt products sameCode findIn find hasMonth billDividend billDivisor valueBy judged valueOf u32Bytes u32At signed recordsOf first some markAt correctionAt positionAt listed quoted tickOf currencyOf worthOf verdictOf countsOf openedOf latestOf finalOf changeOf amountOf totalOf planOf answerOf countsIn entryBytes headerOf madeOf
+files-answered = refl
