@@ -159,8 +159,9 @@ totals-are-sums l f a e = (slices.total-stands l f a e Aud, slices.total-stands 
 pub final-price-is : (ms : List Mark) (cs : List Correction) (m : ℕ) → FinalPrice ms cs m (finalOf ms cs m)
 final-price-is ms cs m = prices.final-price-is ms cs m
 
--- In an accepted file it is the only such price, and depends only on which corrections occur, not on their order or number.
+-- In an accepted file:
 module _ (l : Limits) (f : List ℕ) (places : ℕ) {n k : ℕ} {aud nzd : ℤ} (e : answerOf l f places ≡ settled n aud nzd k) where
+  -- It is the only such price.
   pub one-final-price : (m p : ℕ) → FinalPrice (listsOfFile f .marks) (listsOfFile f .corrections) m p → p ≡ finalOf (listsOfFile f .marks) (listsOfFile f .corrections) m
   one-final-price m p d =
       let ls = listsOfFile f in
@@ -177,6 +178,7 @@ module _ (l : Limits) (f : List ℕ) (places : ℕ) {n k : ℕ} {aud nzd : ℤ} 
       → finalOf (listsOfFile f .marks) (listsOfFile f .corrections) m ≡ markAt (listsOfFile f .marks) m .today
   uncorrected-stands m none = sym (one-final-price _ _ (uncorrected none refl))
 
+  -- It depends only on which corrections occur, not on their order or number.
   pub same-corrections-same-prices : (ds : List Correction) → AllIn (listsOfFile f .corrections) ds → AllIn ds (listsOfFile f .corrections)
       → finalOf (listsOfFile f .marks) ds ≡ finalOf (listsOfFile f .marks) (listsOfFile f .corrections)
   same-corrections-same-prices ds to back =
