@@ -1,4 +1,4 @@
--- What settlement knows of the pricing part: laws that it exports.
+-- What settlement knows of the product table and of the pricing part.
 use mathlib.Core.Path.{_≡_, refl}
 use Prim.Native.Nat.{ℕ, _%_, _≤_, _∣_}
 use native.Mathlib.Omega.{arith}

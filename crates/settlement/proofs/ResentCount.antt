@@ -1,4 +1,4 @@
--- The resent count, with the number of different numbers, makes up the length of the list.
+-- Of the same corrections, however often they stand there, the resent counts differ as the lengths do.
 use mathlib.Core.Path.{_≡_, refl, sym, ap, _∙_, fun-ext}
 use mathlib.Core.Bool.{Bool, true, false}
 use mathlib.Core.List.{List}
