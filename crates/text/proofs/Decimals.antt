@@ -1,20 +1,18 @@
 -- The laws of decimal numbers.
 use mathlib.Core.Path.{_≡_, refl, sym, ap, _∙_}
-use mathlib.Core.Bool.{true, false, true≢false}
-use mathlib.Core.List.{List, [], _∷_, _++_}
-use Prim.Native.Nat.{ℕ, zero, suc, _+_, _*_, _-_, _/_, _%_, _^_, _≤_, _<_}
+use mathlib.Core.Bool.{cond}
+use mathlib.Core.List.{[], _∷_, _++_}
+use Prim.Native.Nat.{ℕ, zero, suc, _+_, _*_, _/_, _%_, _^_, _≤_, _<_}
 use native.Mathlib.Decide.{decLt}
-use native.Mathlib.Nat.{div-lt-self, div-lt-iff-lt-mul, le-div-iff-mul-le, div-div-eq-div-mul, pow-suc}
+use native.Mathlib.Nat.{div-lt-self, div-lt-iff-lt-mul, le-div-iff-mul-le, div-div-eq-div-mul, div-one, pow-suc}
 use native.Mathlib.Omega.{arith}
-use borrow.Author.Tests.{lt-ltb, le-ltb, ltb-true}
-use lib.ListN.{length, set, length-append}
+use borrow.Author.Tests.{lt-ltb, le-ltb}
+use lib.Dec.{ltb}
+use lib.ListN.{length, length-append}
 use lib.IntN.{ℤ, pos, negsuc, natAbs}
-use lib.Signed.{ltZ}
 use mir.Syntax.{w64}
 use mir.Val.{Fits}
-use Rattle.text.specs.Writing.{over}
-use Rattle.text.proofs.Writing.{over-last}
-use Rattle.text.specs.Decimal.{digit, digitsWithin, decimal, minusSign, signedDecimal}
+use Rattle.text.specs.Decimal.{digit, digitsWithin, decimal, signedDecimal}
 
 -- a single digit
 pub decimal-digit : (n : ℕ) → n < 10 → decimal n ≡ digit n ∷ []
@@ -70,53 +68,45 @@ decimal-length (suc k) n h =
 pub decimal-64 : {n : ℕ} → Fits w64 n → length (decimal n) ≤ 20
 decimal-64 {n} f = decimal-length 19 n (omega (arith, f .fits))
 
--- ---- counting the digits by the powers of ten: n has k digits more than n / p
+-- ---- counting the digits by the powers of ten
 
-pub width-more : (n p k : ℕ) → 0 < p → p ≤ n / 10 → length (decimal n) ≡ k + length (decimal (n / p))
-    → length (decimal n) ≡ k + 1 + length (decimal (n / (p * 10)))
-width-more n p k h l e =
-    let m : 10 ≤ n / p = le-div-iff-mul-le h .1 (omega arith) in
-    e ∙ ap (λ x. k + x) (more-digits (n / p) m ∙ ap (λ x. length (decimal x) + 1) (div-div-eq-div-mul n p 10)) ∙ omega arith
+-- k counts the digits of n but for those of n / p, and one
+pub record Counted (n p k : ℕ) : Type 0 where
+  pub power : 0 < p
+  pub count : length (decimal n) + 1 ≡ k + length (decimal (n / p))
 
-pub width-done : (n p k : ℕ) → 0 < p → n / 10 < p → length (decimal n) ≡ k + length (decimal (n / p)) → k + 1 ≡ length (decimal n)
-width-done n p k h l e = omega (arith, one-digit (n / p) (div-lt-iff-lt-mul h .1 (omega arith)))
+pub counted-none : (n : ℕ) → Counted n 1 1
+counted-none n = record { power = omega arith; count = omega (arith, ap (λ x. length (decimal x)) (div-one n)) }
 
--- ---- writing the digits, the last first: i is the place of the next, and w the buffer when all are written
+pub counted-more : {n p k : ℕ} → p * 10 ≤ n → Counted n p k → Counted n (p * 10) (k + 1)
+counted-more {n} {p} h c =
+    let a = more-digits (n / p) (le-div-iff-mul-le (c .power) .1 (omega arith)) in
+    record { power = omega (arith, c .power); count = omega (arith, a, ap (λ x. length (decimal x)) (div-div-eq-div-mul n p 10), c .count) }
 
--- `rest` is still to be written, and i is the place of its last digit
-pub record Left (rest i : ℕ) (now w : List ℕ) : Type 0 where
-  pub place : i + 1 ≡ length (decimal rest)
-  pub buffer : over (decimal rest) now ≡ w
+-- below ten times p, those are all
+pub counted-all : {n p k : ℕ} → n < p * 10 → Counted n p k → k ≡ length (decimal n)
+counted-all {n} {p} h c = omega (arith, one-digit (n / p) (div-lt-iff-lt-mul (c .power) .1 (omega arith)), c .count)
 
-pub left-place : {rest i : ℕ} {now w : List ℕ} → 10 ≤ rest → Left rest i now w → 1 ≤ i
-left-place {rest} h l = omega (arith, more-digits rest h, some-digit (rest / 10), l .place)
-
-pub left-more : {rest i : ℕ} {now w : List ℕ} → 10 ≤ rest → i < length now → Left rest i now w → Left (rest / 10) (i - 1) (set now i (digit (rest % 10))) w
-left-more {rest} {i} {now} h b l =
-    let e : length (decimal (rest / 10)) ≡ i = omega (arith, more-digits rest h, l .place) in
-    record {
-      place = omega (arith, left-place h l);
-      buffer =
-          ap (λ k. over (decimal (rest / 10)) (set now k (digit (rest % 10)))) (sym e) ∙ over-last (decimal (rest / 10)) (digit (rest % 10)) now (omega arith)
-          ∙ ap (λ s. over s now) (sym (decimal-more rest h)) ∙ l .buffer;
-    }
-
-pub left-done : {rest i : ℕ} {now w : List ℕ} → rest < 10 → i < length now → Left rest i now w → set now i (digit rest) ≡ w
-left-done {rest} {i} {now} h b l =
-    let e : i ≡ 0 = omega (arith, one-digit rest h, l .place) in
-    ap (λ k. set now k (digit rest)) e ∙ over-last [] (digit rest) now (omega arith) ∙ ap (λ s. over s now) (sym (decimal-digit rest h)) ∙ l .buffer
+-- a choice at each power of ten: i counts the powers, and k stays behind it once n has ended
+pub counted-step : (i : ℕ) {n p k r : ℕ} → r ≡ cond (ltb n (p * 10)) k (i + 1) → (p ≤ n → k ≡ i) → Counted n p k
+    → (p * 10 ≤ n → r ≡ i + 1) × Counted n (p * 10) r
+counted-step i {n} {p} {k} {r} t e c = go (decLt n (p * 10))
+  where
+    go : Dec (n < p * 10) → (p * 10 ≤ n → r ≡ i + 1) × Counted n (p * 10) r
+    go (yes s) =
+        let q : r ≡ k = rw (lt-ltb n (p * 10) s) at t in
+        let a = one-digit (n / (p * 10)) (div-lt-iff-lt-mul (omega (arith, c .power)) .1 (omega arith)) in
+        (λ m. absurd (omega arith), record { power = omega (arith, c .power); count = omega (arith, a, counted-all s c) })
+    go (no s) =
+        let q : r ≡ k + 1 = rw (le-ltb n (p * 10) (omega arith)) at t ∙ ap (λ x. x + 1) (sym (e (omega (arith, c .power)))) in
+        (λ m. omega (arith, e (omega (arith, c .power))), rw q (counted-more (omega arith) c))
 
 -- ---- signed numbers
 
-pub signed-negative : (z : ℤ) → ltZ z (pos 0) ≡ true → signedDecimal z ≡ minusSign ∷ decimal (natAbs z)
+pub some-signed : (z : ℤ) → 1 ≤ length (signedDecimal z)
 unfolding signedDecimal
-signed-negative (pos n) t = absurd (omega (arith, ltb-true n 0 t))
-signed-negative (negsuc n) t = refl
-
-pub signed-plain : (z : ℤ) → ltZ z (pos 0) ≡ false → signedDecimal z ≡ decimal (natAbs z)
-unfolding signedDecimal
-signed-plain (pos n) t = refl
-signed-plain (negsuc n) t = absurd (true≢false t)
+some-signed (pos n) = some-digit n
+some-signed (negsuc n) = omega arith
 
 -- a signed number below 10 ^ (k + 1) without its sign takes at most k + 2 bytes
 pub signed-length : (k : ℕ) (z : ℤ) → natAbs z < 10 ^ suc k → length (signedDecimal z) ≤ suc (suc k)

@@ -2,29 +2,32 @@
 use mathlib.Core.Path.{_≡_, refl, sym, ap, ap₂, _∙_}
 use mathlib.Core.List.{List, [], _∷_, _++_, append-assoc, append-nil}
 use Prim.Native.Nat.{ℕ, zero, suc, _+_, _*_, _-_, _≤_, _<_}
-use native.Mathlib.Nat.{le-antisymm, zero-add}
+use mathlib.Core.Logic.{⊎-elim}
+use native.Mathlib.Nat.{not-suc-le-zero, le-antisymm, zero-add, eq-or-lt-of-le, le-of-suc-le-suc}
 use native.Mathlib.Numerals.{add-one}
 use native.Mathlib.Omega.{arith}
 use borrow.Author.Tests.{le-leb, lt-leb}
-use lib.ListN.{length, getD, take, drop, set, length-append, length-take, length-drop, drop-of-length-le}
-use lib.Seq.{sets, sets-eq, take-at, drop-at, drop-drop, drop-cons, set-at, set-split, paste-suc, take-all, take-length, length-take-le}
+use lib.ListN.{length, length-set, getD, take, drop, set, length-append, length-take, length-drop, drop-of-length-le}
+use lib.Seq.{sets, sets-eq, drop-at, drop-drop, take-append-le, drop-append-le, drop-append-add, drop-cons, set-at, set-split, paste-suc, take-all, take-length, length-take-le}
 use borrow.Rule.Slice.PartMut.{midOf, putMid, same-len-mid}
 use Rattle.text.specs.Writing.{over, Wrote, Writes, fitted, texts}
 
 -- ---- a text and what is written behind it
 
--- what is written into the part behind s, to the buffer's end, stands behind s
-then-over : (s t out : List ℕ) (a : ℕ) {now mid : List ℕ} → length s ≡ a → now ≡ over s out → mid ≡ over t (midOf a (length now - a) now)
-    → putMid a (length now - a) now mid ≡ over (s ++ t) out
-then-over s t out a {now} {mid} e p q =
-    let r : List ℕ = drop (length s) out in
-    let d : drop a now ≡ r = ap (drop a) p ∙ drop-at s r a e in
-    let n : length r ≤ length now - a = rw (← d, length-drop a now) (omega arith) in
-    let m : mid ≡ over t r = q ∙ ap (over t) (ap (take (length now - a)) d ∙ take-all (length now - a) r n) in
-    let z : drop (length now - a) (drop a now) ≡ [] = ap (drop (length now - a)) d ∙ drop-of-length-le r n in
-    let h : take a now ≡ s = ap (take a) p ∙ take-at s r a e in
-    let o : drop (length t) r ≡ drop (length (s ++ t)) out = drop-drop (length t) (length s) out ∙ ap (λ (k : ℕ). drop k out) (sym (length-append s t)) in
-    ap₂ (λ x y. x ++ y) h (ap₂ (λ x y. x ++ y) m z ∙ append-nil (over t r)) ∙ sym (append-assoc s t (drop (length t) r)) ∙ ap (λ x. s ++ t ++ x) o
+-- what is written into the part from k on, to the buffer's end, and covers what of s stands there
+then-over : (s t out : List ℕ) (k : ℕ) {now mid : List ℕ} → k ≤ length s → length s ≤ k + length t → now ≡ over s out → mid ≡ over t (midOf k (length now - k) now)
+    → putMid k (length now - k) now mid ≡ over (take k s ++ t) out
+then-over s t out k {now} {mid} g h p q =
+    let r : List ℕ = drop k now in
+    let n : length r ≤ length now - k = rw (length-drop k now) (omega arith) in
+    let m : mid ≡ over t r = q ∙ ap (over t) (take-all (length now - k) r n) in
+    let z : drop (length now - k) r ≡ [] = drop-of-length-le r n in
+    let e : k + length t ≡ length s + (k + length t - length s) = omega arith in
+    let f : length s + (k + length t - length s) ≡ length (take k s ++ t) = simp length-append (omega (arith, length-take-le k s g)) in
+    let o : drop (length t) r ≡ drop (length (take k s ++ t)) out =
+    drop-drop (length t) k now ∙ ap₂ (λ x y. drop x y) e p ∙ drop-append-add s (drop (length s) out) _ ∙ drop-drop _ (length s) out ∙ ap (λ x. drop x out) f in
+    ap₂ (λ x y. x ++ y) (ap (take k) p ∙ take-append-le k s _ g) (ap₂ (λ x y. x ++ y) m z ∙ append-nil (over t r)) ∙ sym (append-assoc (take k s) t (drop (length t) r))
+    ∙ ap (λ x. take k s ++ t ++ x) o
 
 -- a buffer keeps its length
 pub wrote-length : {s out after : List ℕ} {n : ℕ} → Wrote s n out after → length after ≡ length out
@@ -33,15 +36,20 @@ wrote-length {s} {out} w = ap length (w .written) ∙ simp (length-append, lengt
 length-mid : (a : ℕ) (l : List ℕ) → length (midOf a (length l - a) l) ≡ length l - a
 length-mid a l = simp (length-take, length-drop) (omega arith)
 
+-- a text, and another written over its end into the part that is lent from k on
+pub wrote-over : {s t out now mid : List ℕ} {a b : ℕ} (k : ℕ) → k ≤ a → a ≤ k + length t → Wrote s a out now → Wrote t b (midOf k (length now - k) now) mid
+    → Wrote (take k s ++ t) (k + b) out (putMid k (length now - k) now mid)
+wrote-over {s} {t} {out} {now} {mid} {a} {b} k g h p q =
+    record {
+      within = omega (arith, p .within, q .within, wrote-length p, length-mid k now);
+      count = ap (λ x. k + x) (q .count) ∙ simp length-append (omega (arith, length-take-le k s (omega (arith, p .count))));
+      written = then-over s t out k (omega (arith, p .count)) (omega (arith, p .count)) (p .written) (q .written);
+    }
+
 -- a text, and another written into the part that is lent behind it, are the one text of both
 pub wrote-then : {s t out now mid : List ℕ} {a b : ℕ} → Wrote s a out now → Wrote t b (midOf a (length now - a) now) mid
     → Wrote (s ++ t) (a + b) out (putMid a (length now - a) now mid)
-wrote-then {s} {t} {out} {now} {mid} {a} {b} p q =
-    record {
-      within = omega (arith, p .within, q .within, wrote-length p, length-mid a now);
-      count = ap₂ (λ x y. x + y) (p .count) (q .count) ∙ sym (length-append s t);
-      written = then-over s t out a (sym (p .count)) (p .written) (q .written);
-    }
+wrote-then {s} {a = a} p q = rw (take-all a s (omega (arith, p .count))) at (wrote-over a (omega arith) (omega arith) p q)
 
 -- a byte stored behind a text
 pub wrote-then-byte : {s out now : List ℕ} {a : ℕ} (b : ℕ) → length s < length out → Wrote s a out now → Wrote (s ++ (b ∷ [])) (a + 1) out (set now a b)
@@ -65,6 +73,21 @@ over-last s b out h =
     ap (λ l. s ++ drop k l) (set-split out k b h) ∙ ap (λ l. s ++ l) (drop-at (take k out) (b ∷ drop (suc k) out) k (length-take-le k out (omega arith)))
     ∙ sym (append-assoc s (b ∷ []) (drop (suc k) out)) ∙ ap (λ m. (s ++ (b ∷ [])) ++ drop m out) e
 
+pub over-two : (s : List ℕ) (a b : ℕ) (out : List ℕ) {i : ℕ} → i ≡ length s + 1 → i < length out
+    → over s (set (set out i b) (i - 1) a) ≡ over (s ++ (a ∷ b ∷ [])) out
+over-two s a b out {i} e h =
+    let k : length (s ++ (a ∷ [])) ≡ length s + 1 = length-append s (a ∷ []) in
+    let j : i - 1 ≡ length s = omega arith in
+    let m : i ≡ length (s ++ (a ∷ [])) = omega arith in
+    rw (j, m)
+    (over-last s a (set out (length (s ++ (a ∷ []))) b) (simp length-set (omega arith)) ∙ over-last (s ++ (a ∷ [])) b out (omega arith)
+    ∙ ap (λ x. over x out) (append-assoc s (a ∷ []) (b ∷ [])))
+
+-- a first byte that is overwritten
+pub set-first : (out : List ℕ) (a b : ℕ) → 0 < length out → set (set out 0 a) 0 b ≡ over (b ∷ []) out
+set-first [] a b h = absurd (not-suc-le-zero h)
+set-first (x ∷ out) a b h = refl
+
 -- nothing written
 pub wrote-none : (out : List ℕ) → Wrote [] 0 out out
 wrote-none out = record { within = omega arith; count = refl; written = refl }
@@ -72,6 +95,18 @@ wrote-none out = record { within = omega arith; count = refl; written = refl }
 -- the first byte
 pub wrote-byte : (b : ℕ) (out : List ℕ) → 0 < length out → Wrote (b ∷ []) 1 out (set out 0 b)
 wrote-byte b out h = wrote-then-byte b h (wrote-none out)
+
+-- a text, with what stands behind it up to a place
+pub wrote-padded : {s now : List ℕ} {n : ℕ} (p q : List ℕ) → length s ≤ length p → Wrote s n (p ++ q) now → Wrote (over s p) (length p) (p ++ q) now
+wrote-padded {s} p q h w =
+    let l : length p ≡ length (over s p) = simp (length-append, length-drop) (omega arith) in
+    record {
+      within = simp length-append (omega arith);
+      count = l;
+      written =
+          w .written ∙ ap (λ x. s ++ x) (drop-append-le (length s) p q h) ∙ sym (append-assoc s (drop (length s) p) q)
+          ∙ ap (λ x. over s p ++ x) (sym (drop-at p q (length (over s p)) l));
+    }
 
 -- byte after byte
 pub wrote-stores : (s out : List ℕ) → length s ≤ length out → Wrote s (length s) out (sets out 0 s)
@@ -107,6 +142,19 @@ wrote-writes w = record { within = w .within; kept = wrote-length w; whole = λ 
 pub no-room-writes : (s out : List ℕ) → length out < length s → Writes s 0 out out
 no-room-writes s out h = fitted-writes s (wrote-no-room s out h)
 
+-- a text, and another written over its end into the part that is lent from k on
+pub writes-over : {s t out now mid : List ℕ} {a b : ℕ} (k : ℕ) → k ≤ a → a ≤ k + length t → Wrote s a out now → Writes t b (midOf k (length now - k) now) mid
+    → Writes (take k s ++ t) (k + b) out (putMid k (length now - k) now mid)
+writes-over {s} {t} {out} {now} {mid} k g h p q =
+    let m : length (midOf k (length now - k) now) ≡ length now - k = length-mid k now in
+    let l : length now ≡ length out = wrote-length p in
+    record {
+      within = omega (arith, p .within, q .within);
+      kept = same-len-mid k (length now - k) now mid (q .kept) ∙ l;
+      whole = λ z. wrote-over k g h p
+          (q .whole (omega (arith, m, p .count, length-take-le k s (omega (arith, p .count)), simp length-append at z)));
+    }
+
 -- a text, and another written into the part that is lent behind it
 pub writes-then : {s t out now mid : List ℕ} {a b : ℕ} → Writes s a out now → Writes t b (midOf a (length now - a) now) mid
     → Writes (s ++ t) (a + b) out (putMid a (length now - a) now mid)
@@ -139,14 +187,38 @@ length-copied s out i h k = simp (length-append, length-drop) (omega (arith, len
 
 -- ---- several texts, one behind the other
 
-pub texts-more : (f : ℕ → List ℕ) (i : ℕ) → texts f (i + 1) ≡ texts f i ++ f i
+texts-more : (f : ℕ → List ℕ) (i : ℕ) → texts f (i + 1) ≡ texts f i ++ f i
 unfolding texts
 texts-more f i = rw add-one
+
+-- one text more
+pub writes-more : (f : ℕ → List ℕ) (i : ℕ) {out now mid : List ℕ} {a b : ℕ} → Writes (texts f i) a out now → Writes (f i) b (midOf a (length now - a) now) mid
+    → Writes (texts f (i + 1)) (a + b) out (putMid a (length now - a) now mid)
+writes-more f i p q = rw (texts-more f i) (writes-then p q)
 
 pub texts-same : (f g : ℕ → List ℕ) (n : ℕ) → ((i : ℕ) → i < n → f i ≡ g i) → texts f n ≡ texts g n
 unfolding texts
 texts-same f g zero h = refl
 texts-same f g (suc n) h = rw (texts-same f g n (λ i l. h i (omega arith)), h n (omega arith))
+
+-- n texts of w bytes each
+pub texts-sized : (f : ℕ → List ℕ) (w n : ℕ) → ((i : ℕ) → length (f i) ≡ w) → length (texts f n) ≡ w * n
+unfolding texts
+texts-sized f w zero h = omega arith
+texts-sized f w (suc n) h = simp length-append (omega (arith, texts-sized f w n h, h n))
+
+-- the text with index j stands w * j bytes from the first
+pub texts-at : (f : ℕ → List ℕ) (w n j : ℕ) (r : List ℕ) → ((i : ℕ) → length (f i) ≡ w) → j < n
+    → drop (w * j) (texts f n ++ r) ≡ f j ++ drop (w * suc j) (texts f n ++ r)
+unfolding texts
+texts-at f w zero j r h l = absurd (not-suc-le-zero l)
+texts-at f w (suc n) j r h l =
+    rw append-assoc
+    (⊎-elim
+    (λ (e : j ≡ n).
+    rw (e, drop-at (texts f n) (f n ++ r) (w * n) (texts-sized f w n h))
+    (ap (λ x. f n ++ x) (sym (rw (append-assoc (texts f n) (f n) r) at (drop-at (texts f n ++ f n) r (w * suc n) (texts-sized f w (suc n) h))))))
+    (λ (k : j < n). texts-at f w n j (f n ++ r) h k) (eq-or-lt-of-le (le-of-suc-le-suc l)))
 
 -- n texts of at most b bytes each
 pub texts-length : (f : ℕ → List ℕ) (n b : ℕ) → ((i : ℕ) → i < n → length (f i) ≤ b) → length (texts f n) ≤ n * b

@@ -1,3 +1,4 @@
 pub mod Ascii
 pub mod Writing
 pub mod Decimal
+pub mod Table

@@ -5,6 +5,7 @@ mod decimal;
 
 pub use copying::write_byte;
 pub use copying::write_text;
+pub use decimal::digit_pairs;
 pub use decimal::magnitude;
 pub use decimal::write_decimal;
 pub use decimal::write_signed;

@@ -1,23 +1,21 @@
-use Rattle.text.proofs.Decimals.{signed-negative, signed-plain}
+use Rattle.text.specs.Table.{signedDecimalBy}
+use Rattle.text.proofs.Table.{sign-is}
 use mir.Facts.{toZ-ofZ}
 use mir.Syntax.{w64}
-use lib.IntN.{natAbs}
-use mathlib.Core.Path.{ap}
 use borrow.Author.Needs.{needs}
 use Rattle.text.proofs.decimal.write_signed.Statement.{statement}
 use Rattle.text.proofs.decimal.write_signed.Tie as tie
 
+write-with-sign-requires : tie.Need-write-with-sign-requires
+write-with-sign-requires c κs =
+    let s = c .before .before .before .before in sign-is (s .args .n) (rw (toZ-ofZ {w = w64} (s .fits .n)) at (c .before .before .sign .ensures)) .0
+
 returns : tie.Need-returns
+unfolding signedDecimalBy
 returns c =
     let s = c .before .before .before .before .before .before .before in
-    let m = c .before .before .before .before .magnitude in
-    rw (signed-negative _ (rw (toZ-ofZ (s .fits .n)) at (c .before .before .before .before .before .if1 .taken)), ← (ap natAbs (toZ-ofZ {w = w64} (s .fits .n))), ← (m .ensures)) (c .before .before .write-negative .ensures)
-
-returns-2 : tie.Need-returns-2
-returns-2 c =
-    let s = c .before .before .before .before .before .before .before in
-    let m = c .before .before .before .before .magnitude2 in
-    rw (signed-plain _ (rw (toZ-ofZ (s .fits .n)) at (c .before .before .before .before .before .if1 .left)), ← (ap natAbs (toZ-ofZ {w = w64} (s .fits .n))), ← (m .ensures)) (c .before .before .write-decimal .ensures)
+    let e = toZ-ofZ {w = w64} (s .fits .n) in
+    rw (sign-is (s .args .n) (rw e at (c .before .before .before .before .before .sign .ensures)) .1, rw e at (c .before .before .before .before .magnitude .ensures)) at (c .before .before .write-with-sign .ensures)
 
 pub write-signed-spec : {M : Type 1} → statement M
 write-signed-spec =
@@ -25,9 +23,6 @@ write-signed-spec =
     (tie.spec
     (λ c κs. search needs)
     (λ c κs. search needs)
+    write-with-sign-requires
     (λ c. search needs)
-    returns
-    (λ c κs. search needs)
-    (λ c κs. search needs)
-    (λ c. search needs)
-    returns-2)
+    returns)
