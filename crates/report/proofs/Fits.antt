@@ -14,8 +14,8 @@ use Rattle.products.specs.declared.table.Currency.the-variants.{Aud, Nzd}
 use Rattle.numbers.proofs.Counting.{count-small}
 use Rattle.dayfile.specs.Limits.{fileLimits}
 use Rattle.dayfile.specs.Records.{Lists, positionAt, markSize, positionSize}
-use Rattle.pairs.specs.Pairs.{numberPair}
-use Rattle.checks.specs.Checks.{repeating, numberOf, verdictOf}
+use Rattle.pairs.specs.Pairs.{numberPair, repeating}
+use Rattle.checks.specs.Checks.{numberOf, verdictOf}
 use Rattle.dayfile.specs.Layout.{openedOf, listsIn, listsOfFile, countsOf, headerSize, positionsStart, markBytes, positionBytes}
 use Rattle.settlement.specs.Conditions.{Reason, Short, Counts, Layout, Record, Room, Holds, reasonNumber, sizeOf}
 use Rattle.checks.specs.Judging.{resentOf}

@@ -1,5 +1,5 @@
 -- From the plan that a file is settled by to the lines of its sheet.
-use mathlib.Core.Path.{_≡_, refl, sym, ap, _∙_}
+use mathlib.Core.Path.{_≡_, refl, ap, _∙_}
 use mathlib.Core.Bool.{Bool, true, false, cond}
 use mathlib.Core.List.{List, []}
 use Prim.Native.Nat.{ℕ, _≤_}
@@ -21,38 +21,41 @@ use Rattle.checks.specs.declared.order.Verdict.{Verdict}
 use Rattle.checks.specs.declared.order.Verdict.the-variants.{Passed, Failed}
 use Rattle.settlement.specs.declared.settling.Settlement.{Settlement}
 use Rattle.checks.specs.Checks.{verdictOf}
+use Rattle.checks.proofs.Passed.{mark-in}
 use Rattle.numbers.proofs.Tables.{entry}
 use Rattle.report.specs.Lines.{positionLine}
 use Rattle.report.specs.Sheet.{positionsText}
-use Rattle.report.specs.Steps.{Paid, countOf, linesIn}
+use Rattle.report.specs.Steps.{Paid, Named, countOf, linesIn}
 
--- the lines that the writer puts down are those of the plan, and their amounts stand in the slice
+-- the lines that the writer puts down are those of the plan, their amounts stand in the slice, and each names a mark
 pub record Lined (l : Lists) (plan : Plan) (n : ℕ) (a : List ℤ) : Type 0 where
   pub room : n ≤ length a
+  pub named : Named (l .marks) (l .positions) n
   pub lines : linesIn l a n ≡ positionsText plan
 
 module _ (l : Lists) (a : List ℤ) {n : ℕ} where
   lined-refused : {k i : ℕ} → Paid (refuse k i) n a → Lined l (refuse k i) n a
   unfolding positionsText texts
-  lined-refused p = record { room = omega (arith, p .count); lines = rw (p .count) }
+  lined-refused p = record { room = omega (arith, p .count); named = λ i h. absurd (omega (arith, p .count)); lines = rw (p .count) }
 
-  lined-accepted : length (l .positions) ≤ length a → Paid (accept l) n a → Lined l (accept l) n a
+  lined-accepted : verdictOf l ≡ Passed → length (l .positions) ≤ length a → Paid (accept l) n a → Lined l (accept l) n a
   unfolding positionsText
-  lined-accepted h p =
+  lined-accepted e h p =
       record {
         room = omega (arith, p .count);
+        named = λ i k. mark-in l e i (omega (arith, p .count));
         lines = ap (linesIn l a) (p .count) ∙ texts-same _ _ (length (l .positions))
             (λ i k. ap (positionLine (positionAt (l .positions) i .account) (markAt (l .marks) (positionAt (l .positions) i .mark)))
             (ap (λ x. getD x i (pos 0)) (p .written) ∙ entry (amountOf (l .positions) (changeIn l)) (length (l .positions)) i (drop (length (l .positions)) (p .before)) (pos 0) k));
       }
 
-  by-room : (t : Bool) → ltb (length a) (length (l .positions)) ≡ t → Paid (cond t (refuse 14 0) (accept l)) n a → Lined l (cond t (refuse 14 0) (accept l)) n a
-  by-room true e p = lined-refused p
-  by-room false e p = lined-accepted (ltb-false _ _ e) p
+  by-room : verdictOf l ≡ Passed → (t : Bool) → ltb (length a) (length (l .positions)) ≡ t → Paid (cond t (refuse 14 0) (accept l)) n a → Lined l (cond t (refuse 14 0) (accept l)) n a
+  by-room v true e p = lined-refused p
+  by-room v false e p = lined-accepted v (ltb-false _ _ e) p
 
-  by-verdict : (v : Verdict) → Paid (listsPlan l v (length a)) n a → Lined l (listsPlan l v (length a)) n a
-  by-verdict (Failed c i) p = lined-refused p
-  by-verdict Passed p = by-room (ltb (length a) (length (l .positions))) refl p
+  by-verdict : (v : Verdict) → verdictOf l ≡ v → Paid (listsPlan l v (length a)) n a → Lined l (listsPlan l v (length a)) n a
+  by-verdict (Failed c i) v p = lined-refused p
+  by-verdict Passed v p = by-room v (ltb (length a) (length (l .positions))) refl p
 
 pub refused-plan : (s : List ℕ) (places : ℕ) {o : Opened} {k : ℕ} → o ≡ openedOf fileLimits s → o ≡ Refused k → planOf fileLimits s places ≡ refuse k 0
 unfolding planOf
@@ -69,11 +72,10 @@ opened-plan s places e f = rw (← e, f)
 
 -- of a file that opens, the lines with the slice's amounts are those of the plan
 pub settled-lines : (s : List ℕ) (a : List ℤ) {n : ℕ} {o : Opened} {d : DayFile} → o ≡ openedOf fileLimits s → o ≡ File d → Paid (planOf fileLimits s (length a)) n a
-    → (n ≤ length a) × (linesIn (listsIn s d) a n ≡ positionsText (planOf fileLimits s (length a)))
-settled-lines s a {n} {o} {d} e f p =
-    let q : planOf fileLimits s (length a) ≡ planFor (listsIn s d) (length a) = opened-plan s (length a) e f in
-    let r = by-verdict (listsIn s d) a (verdictOf (listsIn s d)) (rw q at p) in
-    (r .room, r .lines ∙ ap positionsText (sym q))
+    → Lined (listsIn s d) (planOf fileLimits s (length a)) n a
+settled-lines s a {d = d} e f p =
+    let q = opened-plan s (length a) e f in
+    rw q (by-verdict (listsIn s d) a (verdictOf (listsIn s d)) refl (rw q at p))
 
 -- the answer and the slice of a settlement carry out the plan
 pub paid : (s : List ℕ) (before now : List ℤ) (r : Settlement) → length now ≡ length before → said r ≡ answerOf fileLimits s (length before)

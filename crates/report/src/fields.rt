@@ -1,6 +1,8 @@
 // The fields of a line, each with the byte behind it: a space, or the newline that ends the line.
+ghost use mathlib.Core.Path.{_≡_};
 ghost use mathlib.Core.List.{[], _∷_};
 ghost use Rattle.text.specs.Decimal.{decimal, signedDecimal};
+ghost use Rattle.text.specs.Table.{digitPairs};
 ghost use Rattle.text.specs.Writing.{Writes};
 ghost use Rattle.products.specs.Products.{currencyOf};
 ghost use Rattle.report.specs.Lines.{space, newline, ended, lettersOf};
@@ -12,17 +14,19 @@ use text::write_decimal;
 use text::write_signed;
 use text::write_text;
 
-pub(crate) fn write_number(n: u64, end: u8, out: &mut [u8]) -> usize
+pub(crate) fn write_number(pairs: &[u8; 200], n: u64, end: u8, out: &mut [u8]) -> usize
+    requires { ⌜ now pairs ≡ digitPairs ⌝ }
     ensures { λ r. ⌜ Writes (ended (decimal n) end) r (now (out .entry)) (now (out .exit)) ⌝ }
 {
-    let k = write_decimal(n, out);
+    let k = write_decimal(pairs, n, out);
     k + write_byte(end, &mut out[k..])
 }
 
-pub(crate) fn write_cents(n: i64, end: u8, out: &mut [u8]) -> usize
+pub(crate) fn write_cents(pairs: &[u8; 200], n: i64, end: u8, out: &mut [u8]) -> usize
+    requires { ⌜ now pairs ≡ digitPairs ⌝ }
     ensures { λ r. ⌜ Writes (ended (signedDecimal n) end) r (now (out .entry)) (now (out .exit)) ⌝ }
 {
-    let k = write_signed(n, out);
+    let k = write_signed(pairs, n, out);
     k + write_byte(end, &mut out[k..])
 }
 

@@ -3,6 +3,7 @@ mod answers;
 mod fields;
 mod positions;
 mod sheets;
+mod words;
 
 pub use sheets::SHEET_SIZE;
 pub use sheets::sheet;

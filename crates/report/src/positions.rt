@@ -1,91 +1,78 @@
 // The lines of the positions.
-ghost use mathlib.Core.List.{_++_};
-ghost use Prim.Native.Nat.{_<_, _≤_};
+ghost use mathlib.Core.Path.{_≡_};
+ghost use Prim.Native.Nat.{_*_, _<_, _≤_};
 ghost use lib.ListN.{length};
-ghost use Rattle.text.specs.Decimal.{decimal};
+ghost use Rattle.text.specs.Table.{digitPairs};
 ghost use Rattle.text.specs.Writing.{Writes, texts};
-ghost use Rattle.dayfile.specs.Records.{marksIn, positionsIn};
+ghost use Rattle.dayfile.specs.Limits.{fileLimits};
+ghost use Rattle.dayfile.specs.Records.{marksIn, positionsIn, positionAt};
 ghost use Rattle.numbers.specs.Integers.{entryOf};
-ghost use Rattle.report.specs.Lines.{space, ended, positionLine, lineAt};
-ghost use Rattle.report.specs.Steps.{contractFields, moneyFields};
-use crate::fields::write_cents;
-use crate::fields::write_code;
-use crate::fields::write_currency;
+ghost use Rattle.report.specs.Lines.{lineAt};
+ghost use Rattle.report.specs.Steps.{Words, lineWith, lineFrom, Named};
 use crate::fields::write_number;
-use dayfile::Mark;
-use dayfile::mark_at;
+use crate::words::WORDS_SIZE;
+use crate::words::write_rest;
+use crate::words::write_words;
+use dayfile::DayFile;
 use dayfile::position_at;
 
-// Writes a month and a year, each with a space behind it.
-fn write_date(month: u8, year: u8, out: &mut [u8]) -> usize
-    ensures { λ r. ⌜ Writes (ended (decimal month) space ++ ended (decimal year) space) r (now (out .entry)) (now (out .exit)) ⌝ }
+// Writes a position's line with the words at a place.
+fn write_line(
+    pairs: &[u8; 200],
+    words: &[u8],
+    at: usize,
+    account: u32,
+    amount: i64,
+    out: &mut [u8],
+) -> usize
+    requires { ⌜ (now pairs ≡ digitPairs) × Words (now words) at ⌝ }
+    ensures { λ r. ⌜ Writes (lineWith (now (words .entry)) at account amount) r (now (out .entry)) (now (out .exit)) ⌝ }
 {
-    let year_at = write_number(month as u64, b' ', out);
-    year_at + write_number(year as u64, b' ', &mut out[year_at..])
+    let rest_at = write_number(pairs, account as u64, b' ', out);
+    rest_at + write_rest(pairs, words, at, amount, &mut out[rest_at..])
 }
 
-// Writes a mark's code, month and year, each with a space behind it.
-fn write_contract(m: Mark, out: &mut [u8]) -> usize
-    ensures { λ r. ⌜ Writes (contractFields m) r (now (out .entry)) (now (out .exit)) ⌝ }
-{
-    let date_at = write_code(m.code, out);
-    date_at + write_date(m.month, m.year, &mut out[date_at..])
-}
-
-// Writes an amount, its currency and the line's end.
-fn write_money(m: Mark, amount: i64, out: &mut [u8]) -> usize
-    ensures { λ r. ⌜ Writes (moneyFields m amount) r (now (out .entry)) (now (out .exit)) ⌝ }
-{
-    let currency_at = write_cents(amount, b' ', out);
-    currency_at + write_currency(m.code, &mut out[currency_at..])
-}
-
-// Writes an account and the contract of its position, each field with a space behind it.
-fn write_holding(account: u32, m: Mark, out: &mut [u8]) -> usize
-    ensures { λ r. ⌜ Writes (ended (decimal account) space ++ contractFields m) r (now (out .entry)) (now (out .exit)) ⌝ }
-{
-    let contract_at = write_number(account as u64, b' ', out);
-    contract_at + write_contract(m, &mut out[contract_at..])
-}
-
-// Writes a position's line.
-fn write_line(account: u32, m: Mark, amount: i64, out: &mut [u8]) -> usize
-    ensures { λ r. ⌜ Writes (positionLine account m amount) r (now (out .entry)) (now (out .exit)) ⌝ }
-{
-    let money_at = write_holding(account, m, out);
-    money_at + write_money(m, amount, &mut out[money_at..])
-}
-
-// Writes the line of the position with index i.
+// Writes the line of the position with index i, with the words of the mark that it names.
 fn write_position(
-    marks: &[u8],
+    pairs: &[u8; 200],
+    words: &[u8],
     positions: &[u8],
     amounts: &[i64],
     i: usize,
     out: &mut [u8],
 ) -> usize
-    requires { ⌜ i < length (now amounts) ⌝ }
-    ensures { λ r. ⌜ Writes (lineAt (marksIn (now (marks .entry))) (positionsIn (now (positions .entry))) (entryOf (now (amounts .entry))) i) r (now (out .entry)) (now (out .exit)) ⌝ }
+    requires { ⌜ (now pairs ≡ digitPairs) × (i < length (now amounts)) × Words (now words) (16 * positionAt (positionsIn (now positions)) i .mark) ⌝ }
+    ensures { λ r. ⌜ Writes (lineFrom (now (words .entry)) (positionsIn (now (positions .entry))) (entryOf (now (amounts .entry))) i) r (now (out .entry)) (now (out .exit)) ⌝ }
 {
     let p = position_at(positions, i);
-    write_line(p.account, mark_at(marks, p.mark), amounts[i], out)
+    write_line(
+        pairs,
+        words,
+        WORDS_SIZE * p.mark,
+        p.account,
+        amounts[i],
+        out,
+    )
 }
 
 // Writes the lines of the first n positions, in file order.
 pub(crate) fn write_positions(
+    pairs: &[u8; 200],
     marks: &[u8],
     positions: &[u8],
     amounts: &[i64],
     n: usize,
     out: &mut [u8],
 ) -> usize
-    requires { ⌜ n ≤ length (now amounts) ⌝ }
+    requires { ⌜ (now pairs ≡ digitPairs) × (n ≤ length (now amounts)) × (length (marksIn (now marks)) ≤ fileLimits .marks) × Named (marksIn (now marks)) (positionsIn (now positions)) n ⌝ }
     ensures { λ r. ⌜ Writes (texts (lineAt (marksIn (now (marks .entry))) (positionsIn (now (positions .entry))) (entryOf (now (amounts .entry)))) n) r (now (out .entry)) (now (out .exit)) ⌝ }
 {
+    let mut words = [0u8; WORDS_SIZE * DayFile::MAX_MARKS];
+    write_words(pairs, marks, &mut words);
     let mut at = 0;
     let mut i = 0;
     while i < n {
-        at += write_position(marks, positions, amounts, i, &mut out[at..]);
+        at += write_position(pairs, &words, positions, amounts, i, &mut out[at..]);
         i += 1;
     }
     at

@@ -3,13 +3,14 @@ ghost use mathlib.Core.Path.{_≡_};
 ghost use mathlib.Core.List.{_++_};
 ghost use Prim.Native.Nat.{_≤_};
 ghost use lib.ListN.{length};
+ghost use Rattle.text.specs.Table.{digitPairs};
 ghost use Rattle.text.specs.Writing.{Wrote, Writes};
 ghost use Rattle.dayfile.specs.Limits.{fileLimits};
 ghost use Rattle.dayfile.specs.Layout.{listsIn};
 ghost use Rattle.settlement.specs.Settling.{said, planOf};
 ghost use Rattle.dayfile.specs.Steps.{LaidOut};
 ghost use Rattle.report.specs.Sheet.{answerText, positionsText, sheetWithin, amountsWithin};
-ghost use Rattle.report.specs.Steps.{Paid, countOf, linesIn};
+ghost use Rattle.report.specs.Steps.{Paid, Named, countOf, linesIn};
 use crate::answers::write_answer;
 use crate::positions::write_positions;
 use dayfile::DayFile;
@@ -17,6 +18,7 @@ use dayfile::Opened;
 use dayfile::open_file;
 use settlement::Settlement;
 use settlement::settle;
+use text::digit_pairs;
 
 // No line of a position has more bytes.
 const LINE_SIZE: usize = 47;
@@ -46,8 +48,15 @@ fn count(answer: Settlement) -> usize
 }
 
 // Lends the sections of the marks and of the positions.
-fn write_laid_out(file: &[u8], d: DayFile, n: usize, amounts: &[i64], out: &mut [u8]) -> usize
-    requires { ⌜ LaidOut (now file) d × (n ≤ length (now amounts)) ⌝ }
+fn write_laid_out(
+    pairs: &[u8; 200],
+    file: &[u8],
+    d: DayFile,
+    n: usize,
+    amounts: &[i64],
+    out: &mut [u8],
+) -> usize
+    requires { ⌜ (now pairs ≡ digitPairs) × LaidOut (now file) d × (n ≤ length (now amounts)) × Named (listsIn (now file) d .marks) (listsIn (now file) d .positions) n ⌝ }
     ensures { λ r. ⌜ Writes (linesIn (listsIn (now (file .entry)) d) (now (amounts .entry)) n) r (now (out .entry)) (now (out .exit)) ⌝ }
 {
     let start = DayFile::HEADER;
@@ -55,6 +64,7 @@ fn write_laid_out(file: &[u8], d: DayFile, n: usize, amounts: &[i64], out: &mut 
     let positions = d.positions_start();
     let end = d.length();
     write_positions(
+        pairs,
         &file[start..corrections],
         &file[positions..end],
         amounts,
@@ -64,13 +74,13 @@ fn write_laid_out(file: &[u8], d: DayFile, n: usize, amounts: &[i64], out: &mut 
 }
 
 // Writes the lines of the n positions that were settled, with their amounts.
-fn write_settled(file: &[u8], n: usize, amounts: &[i64], out: &mut [u8]) -> usize
-    requires { ⌜ Paid (planOf fileLimits (now file) (length (now amounts))) n (now amounts) ⌝ }
+fn write_settled(pairs: &[u8; 200], file: &[u8], n: usize, amounts: &[i64], out: &mut [u8]) -> usize
+    requires { ⌜ (now pairs ≡ digitPairs) × Paid (planOf fileLimits (now file) (length (now amounts))) n (now amounts) ⌝ }
     ensures { λ r. ⌜ Writes (positionsText (planOf fileLimits (now (file .entry)) (length (now (amounts .entry))))) r (now (out .entry)) (now (out .exit)) ⌝ }
 {
     match open_file(file) {
         Opened::Refused(_) => 0,
-        Opened::File(d) => write_laid_out(file, d, n, amounts, out),
+        Opened::File(d) => write_laid_out(pairs, file, d, n, amounts, out),
     }
 }
 
@@ -79,8 +89,9 @@ fn write_sheet(file: &[u8], answer: Settlement, amounts: &[i64], out: &mut [u8])
     requires { ⌜ Paid (planOf fileLimits (now file) (length (now amounts))) (countOf (said answer)) (now amounts) ⌝ }
     ensures { λ r. ⌜ Writes (positionsText (planOf fileLimits (now (file .entry)) (length (now (amounts .entry)))) ++ answerText (said answer)) r (now (out .entry)) (now (out .exit)) ⌝ }
 {
-    let n = write_settled(file, count(answer), amounts, out);
-    n + write_answer(answer, &mut out[n..])
+    let pairs = digit_pairs();
+    let n = write_settled(&pairs, file, count(answer), amounts, out);
+    n + write_answer(&pairs, answer, &mut out[n..])
 }
 
 // Settles a day file into the lent amounts, writes its sheet at the start of `out`, and answers the sheet's length. With room for less than

@@ -1,12 +1,15 @@
 use mathlib.Core.List.{[], _∷_}
 use Rattle.text.specs.Decimal.{decimal}
+use Rattle.text.proofs.Table.{by-pairs}
 use Rattle.text.proofs.Writing.{fitted-writes, writes-then}
 use borrow.Author.Needs.{needs}
 use Rattle.report.proofs.fields.write_number.Statement.{statement}
 use Rattle.report.proofs.fields.write_number.Tie as tie
 
 returns : tie.Need-returns
-returns c = writes-then (fitted-writes (decimal _) (c .before .before .before .before .before .before .write-decimal .ensures)) (fitted-writes (_ ∷ []) (c .before .before .write-byte .ensures))
+returns c =
+    writes-then (fitted-writes (decimal _) (rw (c .before .before .before .before .before .before .before .before .before .pre, by-pairs) at (c .before .before .before .before .before .before .write-decimal .ensures)))
+    (fitted-writes (_ ∷ []) (c .before .before .write-byte .ensures))
 
 pub write-number-spec : {M : Type 1} → statement M
 write-number-spec =

@@ -11,7 +11,8 @@ write-laid-out-requires c κs =
     let s = c .before .before .before .before .before .before .before in
     let o = c .before .before .before .before .open-file .ensures in
     let e = c .before .before .d .given .1 in
-    (laid-out (s .args .file .now) (sym o ∙ e), settled-lines (s .args .file .now) (s .args .amounts .now) o e (s .pre) .0)
+    let l = settled-lines (s .args .file .now) (s .args .amounts .now) o e (s .pre .1) in
+    (s .pre .0, laid-out (s .args .file .now) (sym o ∙ e), l .room, l .named)
 
 returns : tie.Need-returns
 returns c =
@@ -21,7 +22,7 @@ returns c =
 returns-2 : tie.Need-returns-2
 returns-2 c =
     let s = c .before .before .before .before .before .before .before .before .before .before in
-    writes-as (settled-lines (s .args .file .now) (s .args .amounts .now) (c .before .before .before .before .before .before .before .open-file .ensures) (c .before .before .before .before .before .d .given .1) (s .pre) .1) (c .before .before .write-laid-out .ensures)
+    writes-as (settled-lines (s .args .file .now) (s .args .amounts .now) (c .before .before .before .before .before .before .before .open-file .ensures) (c .before .before .before .before .before .d .given .1) (s .pre .1) .lines) (c .before .before .write-laid-out .ensures)
 
 pub write-settled-spec : {M : Type 1} → statement M
 write-settled-spec =

@@ -1,7 +1,7 @@
 use Rattle.text.proofs.Writing.{writes-then}
 use borrow.Author.Needs.{needs}
-use Rattle.report.proofs.positions.write_contract.Statement.{statement}
-use Rattle.report.proofs.positions.write_contract.Tie as tie
+use Rattle.report.proofs.words.write_contract.Statement.{statement}
+use Rattle.report.proofs.words.write_contract.Tie as tie
 
 returns : tie.Need-returns
 returns c = writes-then (c .before .before .before .before .before .before .write-code .ensures) (c .before .before .write-date .ensures)

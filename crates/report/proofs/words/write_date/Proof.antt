@@ -1,7 +1,7 @@
 use Rattle.text.proofs.Writing.{writes-then}
 use borrow.Author.Needs.{needs}
-use Rattle.report.proofs.positions.write_date.Statement.{statement}
-use Rattle.report.proofs.positions.write_date.Tie as tie
+use Rattle.report.proofs.words.write_date.Statement.{statement}
+use Rattle.report.proofs.words.write_date.Tie as tie
 
 returns : tie.Need-returns
 returns c = writes-then (c .before .before .before .before .before .before .write-number .ensures) (c .before .before .write-number2 .ensures)
