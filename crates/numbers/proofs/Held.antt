@@ -1,17 +1,18 @@
 -- The laws of lists that hold a function's values in their first places.
 use mathlib.Core.Path.{_≡_, refl, sym, _∙_}
 use mathlib.Core.Bool.{Bool, true, false}
-use mathlib.Core.List.{List}
+use mathlib.Core.List.{List, [], append-nil}
 use mathlib.Core.Logic.{⊎-elim}
-use Prim.Native.Nat.{ℕ, _+_, _<_}
-use native.Mathlib.Nat.{not-suc-le-zero, eq-or-lt-of-le, le-of-suc-le-suc}
+use Prim.Native.Nat.{ℕ, _+_, _≤_, _<_}
+use native.Mathlib.Nat.{le-trans, not-suc-le-zero, eq-or-lt-of-le, le-of-suc-le-suc}
 use native.Mathlib.Numerals.{add-one}
 use native.Mathlib.Omega.{arith}
 use lib.Dec.{eqb}
-use lib.ListN.{length, getD, set, replicate, getD-replicate}
-use lib.Seq.{getD-set-same, getD-set-other}
+use lib.ListN.{length, getD, set, replicate, getD-replicate, length-set}
+use lib.Seq.{getD-set-same, getD-set-other, ext-getD}
 use borrow.Author.Tests.{eqb-true, eqb-false}
-use Rattle.numbers.specs.Folds.{Holds}
+use Rattle.numbers.specs.Folds.{table, Holds}
+use Rattle.numbers.proofs.Tables.{length-table, entry}
 
 module _ {A : Type 0} {d : A} where
   pub holds-none : {f : ℕ → A} {r : List A} → Holds d f 0 r
@@ -37,3 +38,29 @@ module _ {A : Type 0} {d : A} where
       go : (i : ℕ) → i < n → (t : Bool) → eqb i b ≡ t → getD (set r b v) i d ≡ g i
       go i l true p = rw (eqb-true i b p) (getD-set-same r b v d h ∙ e)
       go i l false p = getD-set-other r b i v d (eqb-false i b p) ∙ a .entry i l ∙ sym (keep i (eqb-false i b p))
+
+-- a loop at i that fills a list of n places: the first i are filled
+pub record Done {A : Type 0} (d : A) (f : ℕ → A) (n i : ℕ) (r : List A) : Type 0 where
+  pub upto : i ≤ n
+  pub size : length r ≡ n
+  pub held : Holds d f i r
+
+module _ {A : Type 0} {d : A} {f : ℕ → A} {n : ℕ} where
+  pub none-done : {r : List A} → length r ≡ n → Done d f n 0 r
+  none-done e = record { upto = omega arith; size = e; held = holds-none }
+
+  pub one-more : {i : ℕ} {r : List A} {v : A} → i < n → v ≡ f i → Done d f n i r → Done d f n (i + 1) (set r i v)
+  one-more h e l = record { upto = omega arith; size = simp length-set (l .size); held = holds-more (rw (l .size) h) e (l .held) }
+
+  pub all-done : {i : ℕ} {r : List A} → n ≤ i → Done d f n i r → Holds d f n r
+  all-done h l = record { entry = λ j g. l .held .entry j (le-trans g h) }
+
+  -- a list of n places with these values
+  pub holds-table : {r : List A} → length r ≡ n → Holds d f n r → r ≡ table f n
+  holds-table {r} e h = ext-getD d r (table f n) (e ∙ sym (length-table f n)) (λ i g. h .entry i (rw e at g) ∙ sym (table-at i (rw e at g)))
+    where
+      table-at : (i : ℕ) → i < n → getD (table f n) i d ≡ f i
+      table-at i g = rw append-nil at (entry f n i [] d g)
+
+  pub table-holds : {r : List A} → r ≡ table f n → Holds d f n r
+  table-holds e = record { entry = λ i g. rw e (rw append-nil at (entry f n i [] d g)) }

@@ -1,7 +1,7 @@
 -- Laws of rounding.
 use mathlib.Core.Path.{_≡_, _∙_, ap₂}
-use Prim.Native.Nat.{ℕ, zero, suc, _+_, _*_, _-_, _/_, _%_, _≤_, _<_, zero-le}
-use native.Mathlib.Nat.{mul-div-le, lt-mul-div-succ, le-div-iff-mul-le, mul-le-mul-left, div-eq-of-lt-le, mul-div-mul-left, div-zero, div-add-mod, mod-lt}
+use Prim.Native.Nat.{ℕ, zero, suc, _+_, _*_, _/_, _≤_, _<_, zero-le}
+use native.Mathlib.Nat.{mul-div-le, lt-mul-div-succ, le-div-iff-mul-le, mul-le-mul-left, div-eq-of-lt-le, mul-div-mul-left}
 use native.Mathlib.Omega.{arith}
 use Rattle.numbers.specs.Rounding.{nearest}
 use Rattle.numbers.specs.Nearness.{Near}
@@ -40,33 +40,6 @@ nearest-scale k x d hk = ap₂ (λ (m n : ℕ). m / n) (p k x d) (q k d) ∙ mul
 
     q : (k d : ℕ) → 2 * (k * d) ≡ k * (2 * d)
     q k d = omega arith
-
--- ---- two ways to compute it, and a divisor of 0
-
-pub nearest-none : (x : ℕ) → nearest x 0 ≡ 0
-unfolding nearest
-nearest-none x = div-zero (2 * x + 0)
-
--- by the quotient and the remainder
-module _ (x d : ℕ) (pos : 0 < d) where
-  pub rest-below : x % d < d
-  rest-below = mod-lt x pos
-
-  pub nearest-down : x % d < d - x % d → nearest x d ≡ x / d
-  unfolding nearest
-  nearest-down h = div-eq-of-lt-le (2 * d) {m = 2 * x + d} (omega (arith, div-add-mod x d)) (omega (arith, div-add-mod x d))
-
-  pub nearest-up : d - x % d ≤ x % d → nearest x d ≡ x / d + 1
-  unfolding nearest
-  nearest-up h = div-eq-of-lt-le (2 * d) {m = 2 * x + d} (omega (arith, div-add-mod x d, rest-below)) (omega (arith, div-add-mod x d, rest-below))
-
-  -- and then the quotient is no largest number
-  pub quotient-below : d - x % d ≤ x % d → x / d < x
-  quotient-below h = below d (x / d) (x % d) (div-add-mod x d) rest-below h
-    where
-      below : (d q r : ℕ) {x : ℕ} → d * q + r ≡ x → r < d → d - r ≤ r → q < x
-      below zero q r e l h = absurd (omega arith)
-      below (suc d) q r e l h = omega (arith, e)
 
 -- by half the divisor, rounded down
 pub nearest-half : (x d : ℕ) → 0 < d → nearest x d ≡ (x + d / 2) / d

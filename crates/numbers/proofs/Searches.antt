@@ -11,6 +11,7 @@ use borrow.Author.Tests.{eq-eqb, ne-eqb}
 use Rattle.numbers.specs.Folds.{first, some, orElse, isAt}
 use Rattle.numbers.specs.declared.Found.{Found}
 use Rattle.numbers.specs.declared.Found.the-variants.{At, Nothing}
+use Rattle.numbers.proofs.Chain.{by-two}
 
 -- ---- the first index
 
@@ -88,3 +89,12 @@ clear-some t (suc n) h = rw (clear-some t n (λ k l. h k (omega arith)), h n (om
 -- what holds at n and below it
 pub extend : {Q : ℕ → Type 0} (n : ℕ) → Q n → ((j : ℕ) → j < n → Q j) → (j : ℕ) → j < suc n → Q j
 extend {Q} n here below j h = ⊎-elim (λ (e : j ≡ n). rw e here) (λ (l : j < n). below j l) (eq-or-lt-of-le (le-of-suc-le-suc h))
+
+-- a loop that asks whether some index passes
+pub some-start : (t : ℕ → Bool) → false ≡ some t 0
+unfolding some
+some-start t = refl
+
+pub some-next : (t : ℕ → Bool) (i : ℕ) {b r : Bool} → b ≡ some t i → r ≡ t i → (b || r) ≡ some t (i + 1)
+unfolding some
+some-next t i p q = rw add-one (by-two _||_ refl p q)

@@ -58,8 +58,3 @@ module _ (code : Code) (p : ℕ) {o : Checked} (is : o ≡ checkOf code p) where
         let (q, d, a, b, j) = its-product in
         let s = sound code (sym d) refl in
         record { terms = rw a at (s .terms); positive = rw b at (s .tick); low = rw b at (s .low); within = passed tick p (sym j) refl .0 }
-
-    -- another price of the product passes where checks 6 and 7 do
-    pub other-price : (r : ℕ) → judged tick r ≡ Passed → checkOf code r ≡ Product t tick
-    unfolding checkOf
-    other-price r j = let (q, d, a, b, i) = its-product in rw (d, b, j, a, b)

@@ -1,78 +1,62 @@
--- The ladder's loop at k: v and sum are Vk and V1 + .. + Vk.
+-- The ladder's rungs follow each other, and fit.
 use mathlib.Core.Path.{_≡_, sym, _∙_}
-use Prim.Native.Nat.{ℕ, zero, suc, _+_, _*_, _≤_, _<_}
-use native.Mathlib.Nat.{mul-le-mul, le-trans, le-antisymm, mul-le-mul-right}
+use Prim.Native.Nat.{ℕ, zero, suc, _+_, _*_, _≤_}
+use native.Mathlib.Nat.{mul-le-mul, le-trans, le-refl, mul-le-mul-right}
 use native.Mathlib.Numerals.{add-one}
 use native.Mathlib.Omega.{arith}
+use lib.Dec.{lit≤}
 use Rattle.numbers.specs.Rounding.{nearest}
+use Rattle.numbers.proofs.Rounding.{nearest-mono}
 use Rattle.products.specs.Products.{priceLimit}
-use Rattle.pricing.specs.Ladder.{firstFactor, factor, annuity, bracket}
+use Rattle.pricing.specs.Ladder.{firstFactor, annuity, bracket}
 use Rattle.pricing.specs.Value.{scale, bondDivisor, Modest}
+use Rattle.pricing.specs.Rungs.{rungAt, nextOf, Low}
+use Rattle.pricing.specs.declared.ladder.Rung.{Rung}
 use Rattle.products.specs.declared.table.Terms.the-variants.{Bond}
 use Rattle.pricing.proofs.Factors.{factor-first, factor-next, annuity-none, annuity-next}
-use Rattle.pricing.proofs.Bounds.{factor-cap, annuity-cap, bracket-cap}
+use Rattle.pricing.proofs.Bounds.{scale-positive, factor-cap, annuity-cap, bracket-cap}
 
-pub record Climbed (p n first v sum k : ℕ) : Type 0 where
-  pub from : 1 ≤ k
-  pub upto : k ≤ n
-  pub first-is : first ≡ firstFactor scale (bondDivisor p)
-  pub v-is : v ≡ factor scale (bondDivisor p) k
-  pub sum-is : sum ≡ annuity scale (bondDivisor p) k
+-- the first rung
+pub first-rung : (p : ℕ) {r : ℕ} → r ≡ firstFactor scale (bondDivisor p) → record { first = r; v = r; sum = r } ≡ rungAt p 1
+unfolding rungAt
+first-rung p e =
+    let v = sym (factor-first scale (bondDivisor p)) in
+    let sum : firstFactor scale (bondDivisor p) ≡ annuity scale (bondDivisor p) 1 = sym (annuity-next scale (bondDivisor p) 0 ∙ omega (arith, annuity-none scale (bondDivisor p), factor-first scale (bondDivisor p))) in
+    rw (e, ← v, ← sum)
 
-module _ {p n first v sum k : ℕ} (l : Climbed p n first v sum k) where
-  pub next : (w : ℕ) → k < n → w ≡ nearest (v * first) scale → Climbed p n first w (sum + w) (k + 1)
-  next w h e = go k h (l .from) (l .v-is) (l .sum-is)
-    where
-      go : (k : ℕ) → k < n → 1 ≤ k → v ≡ factor scale (bondDivisor p) k → sum ≡ annuity scale (bondDivisor p) k → Climbed p n first w (sum + w) (k + 1)
-      go zero h f a b = absurd (omega arith)
-      go (suc j) h f a b =
-          let w-is : w ≡ factor scale (bondDivisor p) (suc (suc j)) = rw (factor-next scale (bondDivisor p) j, ← (l .first-is), ← a) e in
-          rw (add-one (suc j))
-          (record {
-            from = omega arith;
-            upto = h;
-            first-is = l .first-is;
-            v-is = w-is;
-            sum-is = rw (annuity-next scale (bondDivisor p) (suc j), ← b, ← w-is);
-          })
+-- a rung more
+pub next-rung : (p : ℕ) {k : ℕ} → 1 ≤ k → nextOf (rungAt p k) ≡ rungAt p (k + 1)
+unfolding rungAt nextOf
+next-rung p {k} h = go k h
+  where
+    go : (k : ℕ) → 1 ≤ k → nextOf (rungAt p k) ≡ rungAt p (k + 1)
+    go zero h = absurd (omega arith)
+    go (suc j) h = rw (add-one (suc j), annuity-next scale (bondDivisor p) (suc j), factor-next scale (bondDivisor p) j)
 
-  module _ (h : p ≤ priceLimit) where
-    first-low : first ≤ 100_000_000
-    unfolding scale
-    first-low = rw (l .first-is, ← (factor-first scale (bondDivisor p))) (factor-cap h 1)
-
-    v-low : v ≤ 100_000_000
-    unfolding scale
-    v-low = rw (l .v-is) (factor-cap h k)
-
-    sum-low : k ≤ 40 → sum ≤ 4_000_000_000
-    unfolding scale
-    sum-low g = rw (l .sum-is) (le-trans (annuity-cap h k) (mul-le-mul-right scale g))
-
-    pub product-low : v * first ≤ 100_000_000 * 100_000_000
-    product-low = mul-le-mul v-low first-low
-
-pub begin : {p n r : ℕ} → 1 ≤ n → r ≡ firstFactor scale (bondDivisor p) → Climbed p n r r r 1
-begin {p} h e =
+-- every rung fits
+pub rung-low : {p k : ℕ} → p ≤ priceLimit → k ≤ 40 → Low (rungAt p k)
+unfolding rungAt scale
+rung-low {p} {k} h g =
     record {
-      from = omega arith;
-      upto = h;
-      first-is = e;
-      v-is = e ∙ sym (factor-first scale (bondDivisor p));
-      sum-is = e ∙ sym (annuity-next scale (bondDivisor p) 0 ∙ omega (arith, annuity-none scale (bondDivisor p), factor-first scale (bondDivisor p)));
+      first = rw (← (factor-first scale (bondDivisor p))) (factor-cap h 1);
+      v = factor-cap h k;
+      sum = le-trans (annuity-cap h k) (mul-le-mul-right scale g);
     }
 
--- one rung more fits
-pub step-low : {p n first v sum k w : ℕ} → Climbed p n first v sum k → p ≤ priceLimit → n ≤ 40 → k < n → w ≡ nearest (v * first) scale → sum + w ≤ 4_100_000_000
-step-low {w = w} l h g i e = omega (arith, sum-low l h (le-trans (l .upto) g), v-low (next l w i e) h)
+pub product-low : {l : Rung} → Low l → l .v * l .first ≤ 100_000_000 * 100_000_000
+product-low s = mul-le-mul (s .v) (s .first)
 
--- at the end of a ladder of n rungs, with a coupon of at most 3
-pub ends-low : {p n first v sum k x : ℕ} → Climbed p n first v sum k → p ≤ priceLimit → n ≤ 40 → x ≤ 3 → (x ≤ 3) × (sum ≤ 4_000_000_000) × (v ≤ 100_000_000)
-ends-low l h g e = (e, sum-low l h (le-trans (l .upto) g), v-low l h)
+pub next-v-low : {l : Rung} {w : ℕ} → Low l → w ≡ nearest (l .v * l .first) scale → w ≤ 100_000_000
+unfolding scale nearest
+next-v-low s e = rw e (le-trans (nearest-mono _ (100_000_000 * 100_000_000) scale scale scale-positive (product-low s) (le-refl scale)) (lit≤ tt))
 
-pub climbed : {p n first v sum k r : ℕ} (x : ℕ) → Climbed p n first v sum k → n ≤ k → r ≡ x * sum + 100 * v → r ≡ bracket scale x n (bondDivisor p)
-unfolding bracket
-climbed x l h is = let e = le-antisymm (l .upto) h in is ∙ rw (l .v-is, l .sum-is, e)
+pub rung-low-as : (p k : ℕ) {l : Rung} → l ≡ rungAt p k → p ≤ priceLimit → k ≤ 40 → Low l
+rung-low-as p k e h g = rw e (rung-low h g)
+
+-- the last rung gives the bracket
+pub rung-bracket : (p n x : ℕ) {r : ℕ} {l : Rung} → l ≡ rungAt p n → r ≡ x * l .sum + 100 * l .v → r ≡ bracket scale x n (bondDivisor p)
+unfolding bracket rungAt
+rung-bracket p n x e is = is ∙ rw e
 
 -- a bracket times its face
 pub face-low : {p b face coupon halves : ℕ} → Modest (Bond face coupon halves) → p ≤ priceLimit → b ≡ bracket scale coupon halves (bondDivisor p) → b * face ≤ 440_000_000_000 * 100_000

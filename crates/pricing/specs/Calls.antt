@@ -1,7 +1,10 @@
 -- The answers of the single-contract calls, with the numbers of the checks that turn a call away.
 use Prim.Native.Nat.{ℕ, _+_, _-_, _%_}
 use mathlib.Core.Bool.{Bool, cond}
+use mathlib.Core.List.{List}
 use lib.Dec.{leb, eqb}
+use lib.ListN.{getD}
+use Rattle.numbers.specs.Folds.{table}
 use Rattle.products.specs.Products.{priceLimit, find}
 use Rattle.pricing.specs.Ladder.{bracket}
 use Rattle.pricing.specs.Value.{scale, bondDivisor, valueBy}
@@ -44,9 +47,22 @@ abbrev pub after : Judged → Answer → Answer
 after Passed a = a
 after (Failed k) a = refused k 0
 
+-- the number of an answer, 0 where the call is refused
+abbrev pub orZero : Answer → ℕ
+orZero (given n) = n
+orZero (refused k i) = 0
+
 -- the value of one contract in cents
 unfoldable pub valueOf : Code → ℕ → Answer
 valueOf code p = ofProduct (find code) (λ q. after (judged (q .tick) p) (given (valueBy (q .terms) p)))
+
+-- how many prices are asked for at once
+abbrev pub lanes : ℕ
+lanes = 8
+
+-- the value at each of several prices, 0 where the call is refused
+unfoldable pub worthsOf : Code → List ℕ → List ℕ
+worthsOf code p = table (λ i. orZero (valueOf code (getD p i 0))) lanes
 
 -- the value at p + tick minus the value at p, which is never below 0 (proofs/Promises.antt, tick-value-adds)
 unfoldable pub tickValueOf : Code → ℕ → Answer

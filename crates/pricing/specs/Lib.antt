@@ -2,6 +2,7 @@ pub mod Prices
 pub mod Ladder
 pub mod Value
 pub mod Calls
+pub mod Rungs
 pub mod Conditions
 pub mod Accuracy
 pub mod Figures

@@ -1,5 +1,6 @@
--- Checks 4, 6 and 7 by themselves, as `check` makes them for `two_values` and `tick_value`. No caller of the crate sees these.
+-- Checks 4, 6 and 7 by themselves, and what they leave of a number. No caller of the crate sees these.
 use Prim.Native.Nat.{ℕ}
+use mathlib.Core.Bool.{Bool, true, false}
 use Rattle.products.specs.Products.{find}
 use Rattle.pricing.specs.Calls.{Answer, refused, judged}
 use Rattle.products.specs.declared.table.Code.{Code}
@@ -29,3 +30,13 @@ checkOf code p = checkIn (find code) p
 abbrev pub ofChecked : Checked → (Terms → ℕ → Answer) → Answer
 ofChecked (checked.Product t tick) f = f t tick
 ofChecked (checked.Refused k) f = refused k 0
+
+-- a price fails check 6 or 7
+abbrev pub isFailed : Judged → Bool
+isFailed Passed = false
+isFailed (Failed k) = true
+
+-- a number for a price that passes, else 0
+abbrev pub ifPassed : Judged → ℕ → ℕ
+ifPassed Passed n = n
+ifPassed (Failed k) n = 0

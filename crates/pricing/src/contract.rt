@@ -2,12 +2,14 @@
 ghost use mathlib.Core.Path.{_≡_};
 ghost use Prim.Native.Nat.{_<_};
 ghost use Rattle.pricing.specs.Ladder.{bracket};
-ghost use Rattle.pricing.specs.Value.{scale, bondDivisor, Modest};
+ghost use Rattle.pricing.specs.Value.{scale, bondDivisor, valueBy, Modest};
 ghost use Rattle.pricing.specs.Calls.{given, said, judged, after, ofBond, valueOf, tickValueOf, bracketOf};
 ghost use Rattle.pricing.specs.Steps.{checkOf};
 use crate::ladder::bracket_at;
-use crate::values::value_at;
-use crate::values::values_at;
+use crate::values::bill_at;
+use crate::values::bond_at;
+use crate::values::cash_at;
+use crate::values::two_at;
 use products::Code;
 use products::Found;
 use products::PRICE_LIMIT;
@@ -22,12 +24,12 @@ pub enum Priced {
 }
 
 // Whether a price passes checks 6 and 7, or the number of the first that it fails.
-enum Judged {
+pub enum Judged {
     Passed,
     Failed(u8),
 }
 
-fn judge(tick: u32, p: u32) -> Judged
+pub(crate) fn judge(tick: u32, p: u32) -> Judged
     ensures { λ r. ⌜ r ≡ judged tick p ⌝ }
 {
     if PRICE_LIMIT < p {
@@ -37,22 +39,6 @@ fn judge(tick: u32, p: u32) -> Judged
         return Judged::Failed(7);
     }
     Judged::Passed
-}
-
-// The value of one contract in cents.
-pub fn value(code: Code, p: u32) -> Priced
-    ensures { λ r. ⌜ said r ≡ valueOf code p ⌝ }
-{
-    match lookup(code) {
-        Found::At(q) => match judge(q.tick, p) {
-            Judged::Passed => {
-                let t = q.terms;
-                Priced::Given(value_at(t, p as u64))
-            }
-            Judged::Failed(k) => Priced::Refused(k),
-        },
-        Found::Missing => Priced::Refused(4),
-    }
 }
 
 // The terms and the tick of the product at a price that passes checks 4, 6 and 7, or the number of the first that fails.
@@ -79,21 +65,42 @@ fn check(code: Code, p: u32) -> Checked
     }
 }
 
-// The answers for two prices of one contract.
-pub struct TwoPriced(pub Priced, pub Priced);
-
-// The values of one contract at two prices, in cents.
-pub fn two_values(code: Code, p: u32, q: u32) -> TwoPriced
-    ensures { λ r. ⌜ (said (r .0) ≡ valueOf code p) × (said (r .1) ≡ valueOf code q) ⌝ }
+// The value by the terms, after checks 6 and 7. The terms come first, so that each kind's constants are known where its formula is worked.
+fn value_by(t: Terms, tick: u32, p: u32) -> Priced
+    requires { ⌜ Modest t ⌝ }
+    ensures { λ r. ⌜ said r ≡ after (judged tick p) (given (valueBy t p)) ⌝ }
 {
-    if let Checked::Product { terms, tick } = check(code, p) {
-        if let Judged::Passed = judge(tick, q) {
-            let v = values_at(terms, p as u64, q as u64);
-            return TwoPriced(Priced::Given(v.0), Priced::Given(v.1));
-        }
+    match t {
+        Terms::Bill { face, days } => match judge(tick, p) {
+            Judged::Passed => Priced::Given(bill_at(face, days, p as u64)),
+            Judged::Failed(k) => Priced::Refused(k),
+        },
+        Terms::Bond {
+            face,
+            coupon,
+            halves,
+        } => match judge(tick, p) {
+            Judged::Passed => Priced::Given(bond_at(face, coupon, halves, p as u64)),
+            Judged::Failed(k) => Priced::Refused(k),
+        },
+        Terms::CashRate { cents } => match judge(tick, p) {
+            Judged::Passed => Priced::Given(cash_at(cents, p as u64)),
+            Judged::Failed(k) => Priced::Refused(k),
+        },
     }
-    // At least one is turned away, and each answers for itself.
-    TwoPriced(value(code, p), value(code, q))
+}
+
+// The value of one contract in cents.
+pub fn value(code: Code, p: u32) -> Priced
+    ensures { λ r. ⌜ said r ≡ valueOf code p ⌝ }
+{
+    match lookup(code) {
+        Found::At(q) => {
+            let t = q.terms;
+            value_by(t, q.tick, p)
+        }
+        Found::Missing => Priced::Refused(4),
+    }
 }
 
 // The value one tick higher, minus the value.
@@ -106,8 +113,8 @@ pub fn tick_value(code: Code, p: u32) -> Priced
             if PRICE_LIMIT < next {
                 return Priced::Refused(15);
             }
-            let v = values_at(terms, next as u64, p as u64);
-            Priced::Given(v.0 - v.1)
+            let v = two_at(terms, p as u64, next as u64);
+            Priced::Given(v.other - v.one)
         }
         Checked::Refused(k) => Priced::Refused(k),
     }

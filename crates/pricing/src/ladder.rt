@@ -1,10 +1,12 @@
 // The bond ladder: discount factors by rounded powers, in units of 10^-8.
+use crate::rounding::rounded;
 ghost use mathlib.Core.Path.{_≡_};
 ghost use Prim.Native.Nat.{_+_, _*_, _≤_};
 ghost use Rattle.numbers.specs.Rounding.{nearest};
 ghost use Rattle.products.specs.Products.{priceLimit};
 ghost use Rattle.pricing.specs.Ladder.{firstFactor, bracket};
 ghost use Rattle.pricing.specs.Value.{scale, bondDivisor};
+ghost use Rattle.pricing.specs.Rungs.{rungAt, nextOf, Low};
 
 // One, in the units of the ladder.
 const SCALE: u64 = 100_000_000;
@@ -20,7 +22,7 @@ pub(crate) fn descaled(x: u64) -> u64
     requires { ⌜ x ≤ 1000000000000000000 ⌝ }
     ensures { λ r. ⌜ r ≡ nearest x scale ⌝ }
 {
-    (x + SCALE / 2) / SCALE
+    rounded(x, SCALE)
 }
 
 // V1: 2,000,000 over (2,000,000 + Y), rounded.
@@ -28,15 +30,48 @@ fn first_factor(p: u64) -> u64
     requires { ⌜ p ≤ priceLimit ⌝ }
     ensures { λ r. ⌜ r ≡ firstFactor scale (bondDivisor p) ⌝ }
 {
-    numbers::nearest(BASE * SCALE, BASE + (PAR - p))
+    rounded(BASE * SCALE, BASE + (PAR - p))
+}
+
+// A ladder at one of its rungs: V1, Vk and V1 + .. + Vk.
+pub struct Rung {
+    pub first: u64,
+    pub v: u64,
+    pub sum: u64,
+}
+
+// The first rung at a price.
+pub(crate) fn start(p: u64) -> Rung
+    requires { ⌜ p ≤ priceLimit ⌝ }
+    ensures { λ r. ⌜ r ≡ rungAt p 1 ⌝ }
+{
+    let first = first_factor(p);
+    Rung {
+        first,
+        v: first,
+        sum: first,
+    }
+}
+
+// The next rung.
+pub(crate) fn climb(l: Rung) -> Rung
+    requires { ⌜ Low l ⌝ }
+    ensures { λ r. ⌜ r ≡ nextOf l ⌝ }
+{
+    let v = descaled(l.v * l.first);
+    Rung {
+        first: l.first,
+        v,
+        sum: l.sum + v,
+    }
 }
 
 // c times (V1 + .. + Vn) plus 100 times Vn.
-fn bracket_of(coupon: u64, annuity: u64, last: u64) -> u64
-    requires { ⌜ (coupon ≤ 3) × (annuity ≤ 4000000000) × (last ≤ 100000000) ⌝ }
-    ensures { λ r. ⌜ r ≡ coupon * annuity + 100 * last ⌝ }
+pub(crate) fn bracket_of(coupon: u64, l: Rung) -> u64
+    requires { ⌜ (coupon ≤ 3) × Low l ⌝ }
+    ensures { λ r. ⌜ r ≡ coupon * l .sum + 100 * l .v ⌝ }
 {
-    coupon * annuity + 100 * last
+    coupon * l.sum + 100 * l.v
 }
 
 // The bracket of a bond.
@@ -44,39 +79,36 @@ pub(crate) fn bracket_at(coupon: u64, halves: u64, p: u64) -> u64
     requires { ⌜ (coupon ≤ 3) × (1 ≤ halves) × (halves ≤ 40) × (p ≤ priceLimit) ⌝ }
     ensures { λ r. ⌜ r ≡ bracket scale coupon halves (bondDivisor p) ⌝ }
 {
-    let first = first_factor(p);
-    let mut v = first;
-    let mut sum = first;
+    let mut l = start(p);
     let mut k = 1;
     while k < halves {
-        v = descaled(v * first);
-        sum += v;
+        l = climb(l);
         k += 1;
     }
-    bracket_of(coupon, sum, v)
+    bracket_of(coupon, l)
 }
 
-// A number for each of two prices.
-pub struct Two(pub u64, pub u64);
+// What holds at one price, and at another.
+pub struct Two {
+    pub one: u64,
+    pub other: u64,
+}
 
-// The brackets of a bond at two prices. The two ladders are climbed side by side, so that neither waits for the other.
+// The brackets of a bond at two prices, whose ladders are climbed side by side.
 pub(crate) fn brackets_at(coupon: u64, halves: u64, p: u64, q: u64) -> Two
     requires { ⌜ (coupon ≤ 3) × (1 ≤ halves) × (halves ≤ 40) × (p ≤ priceLimit) × (q ≤ priceLimit) ⌝ }
-    ensures { λ r. ⌜ (r .0 ≡ bracket scale coupon halves (bondDivisor p)) × (r .1 ≡ bracket scale coupon halves (bondDivisor q)) ⌝ }
+    ensures { λ r. ⌜ (r .one ≡ bracket scale coupon halves (bondDivisor p)) × (r .other ≡ bracket scale coupon halves (bondDivisor q)) ⌝ }
 {
-    let first = first_factor(p);
-    let other = first_factor(q);
-    let mut v = first;
-    let mut w = other;
-    let mut sum = first;
-    let mut total = other;
-    let mut rung = 1;
-    while rung < halves {
-        v = descaled(v * first);
-        w = descaled(w * other);
-        sum += v;
-        total += w;
-        rung += 1;
+    let mut l = start(p);
+    let mut m = start(q);
+    let mut k = 1;
+    while k < halves {
+        l = climb(l);
+        m = climb(m);
+        k += 1;
     }
-    Two(bracket_of(coupon, sum, v), bracket_of(coupon, total, w))
+    Two {
+        one: bracket_of(coupon, l),
+        other: bracket_of(coupon, m),
+    }
 }

@@ -2,12 +2,13 @@
 use Prim.Native.Nat.{ℕ, zero, suc, _+_, _/_, _%_, _^_}
 use mathlib.Core.Path.{_≡_}
 use mathlib.Core.List.{List, [], _∷_, _++_, List·Memᴰ}
-use mathlib.Core.Bool.{Bool, cond, _&&_}
+use mathlib.Core.Bool.{Bool, true, false, cond, _&&_}
 use lib.Dec.{eqb, ltb}
 use Rattle.products.specs.declared.table.Code.{Code}
 use Rattle.products.specs.declared.table.Currency.{Currency}
 use Rattle.products.specs.declared.table.Currency.the-variants.{Aud, Nzd}
 use Rattle.products.specs.declared.table.Product.{Product}
+use Rattle.products.specs.declared.table.Terms.{Terms}
 use Rattle.products.specs.declared.table.Terms.the-variants.{Bill, Bond, CashRate}
 use Rattle.products.specs.declared.table.Found.{Found}
 use Rattle.products.specs.declared.table.Found.the-variants.{At, Missing}
@@ -84,6 +85,19 @@ currencyIn Missing = Aud
 
 unfoldable pub currencyOf : Code → Currency
 currencyOf a = currencyIn (find a)
+
+-- terms are a bond's, and a code names a bond
+abbrev pub bondTerms : Terms → Bool
+bondTerms (Bill face days) = false
+bondTerms (Bond face c n) = true
+bondTerms (CashRate cents) = false
+
+abbrev pub bondIn : Found → Bool
+bondIn (At q) = bondTerms (q .terms)
+bondIn Missing = false
+
+unfoldable pub isBond : Code → Bool
+isBond a = bondIn (find a)
 
 -- a month is one of the product's
 unfoldable pub hasMonth : Product → ℕ → Bool

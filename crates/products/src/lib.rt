@@ -10,5 +10,7 @@ pub use table::Product;
 pub use table::Terms;
 pub use table::currency_of;
 pub use table::has_month;
+pub use table::is_bond;
 pub use table::lookup;
 pub use table::off_tick;
+pub use table::same_code;

@@ -1,10 +1,11 @@
 // The product table, and the product that a code names.
+use numbers::joined;
 ghost use mathlib.Core.Path.{_≡_};
 ghost use mathlib.Core.Bool.{not};
 ghost use lib.Dec.{eqb};
 ghost use Prim.Native.Nat.{_%_, _<_};
 ghost use lib.ListN.{getD};
-ghost use Rattle.products.specs.Products.{products, noProduct, sameCode, find, currencyOf, hasMonth};
+ghost use Rattle.products.specs.Products.{products, noProduct, sameCode, find, currencyOf, bondTerms, isBond, hasMonth};
 
 // The highest price, in units of 0.0001.
 pub const PRICE_LIMIT: u32 = 1_000_000;
@@ -116,10 +117,11 @@ fn line(i: usize) -> Product
     PRODUCTS[i]
 }
 
-fn same_code(a: Code, b: Code) -> bool
+// Whether two codes have the same letters. They are compared as one number, so that the compiler searches the table by numbers.
+pub fn same_code(a: Code, b: Code) -> bool
     ensures { λ r. ⌜ r ≡ sameCode a b ⌝ }
 {
-    (a.0 == b.0) & (a.1 == b.1)
+    joined(a.0, a.1, 0, 0) == joined(b.0, b.1, 0, 0)
 }
 
 // The product that a code names.
@@ -150,17 +152,44 @@ pub fn currency_of(code: Code) -> Currency
     }
 }
 
+// Whether terms are a bond's.
+fn bond_terms(t: Terms) -> bool
+    ensures { λ r. ⌜ r ≡ bondTerms t ⌝ }
+{
+    match t {
+        Terms::Bill { face: _, days: _ } => false,
+        Terms::Bond {
+            face: _,
+            coupon: _,
+            halves: _,
+        } => true,
+        Terms::CashRate { cents: _ } => false,
+    }
+}
+
+// Whether a code names a bond.
+pub fn is_bond(code: Code) -> bool
+    ensures { λ r. ⌜ r ≡ isBond code ⌝ }
+{
+    match lookup(code) {
+        Found::At(q) => {
+            let t = q.terms;
+            bond_terms(t)
+        }
+        Found::Missing => false,
+    }
+}
+
 // Whether a price is not a multiple of a tick. The table's ticks, 50 and 100, are constants here: the compiler divides by a constant without a
 // division, which would take several times as long.
 pub fn off_tick(p: u32, tick: u32) -> bool
     ensures { λ r. ⌜ r ≡ not (eqb (p % tick) 0) ⌝ }
 {
-    let off = p % 50 != 0;
     if tick == 50 {
-        return off;
+        return p % 50 != 0;
     }
     if tick == 100 {
-        return off | (p / 50 % 2 != 0);
+        return p % 100 != 0;
     }
     if tick == 0 {
         return p != 0;

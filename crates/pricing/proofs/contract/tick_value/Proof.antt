@@ -34,21 +34,22 @@ returns c =
     let x = c .before .before .terms .given in
     above (c .before .before .before .before .before .args .p) (x .0 .0) (x .0 .1 .0) (c .if1 .taken) ∙ by-checked _ _ (c .before .before .before .before .check .ensures) (answer _) (x .1)
 
-values-at-requires : tie.Need-values-at-requires
+two-at-requires : tie.Need-two-at-requires
 unfolding priceLimit
-values-at-requires c κs =
+two-at-requires c κs =
     let h = allowed _ _ (c .before .before .before .before .check .ensures) (c .before .before .terms .given .1) in
-    (h .terms, c .if1 .left, h .within)
+    (h .terms, h .within, c .if1 .left)
 
 sub-t11 : tie.Need-sub-t11
 unfolding priceLimit
-sub-t11 c = rw (c .before .values-at .ensures .0, c .before .values-at .ensures .1) (value-by-rises _ (omega arith) (c .before .before .if1 .left))
+sub-t11 c = let v = c .before .two-at .ensures in rw (v .0, v .1) (value-by-rises _ (omega arith) (c .before .before .if1 .left))
 
 returns-2 : tie.Need-returns-2
 unfolding tickValueOf priceLimit
 returns-2 c =
     let x = c .before .before .before .before .terms .given in
-    rw (c .before .values-at .ensures .0, c .before .values-at .ensures .1)
+    let v = c .before .two-at .ensures in
+    rw (v .0, v .1)
     (within (c .before .before .before .before .before .before .before .args .p) (x .0 .0) (x .0 .1 .0) (c .before .before .if1 .left) ∙ by-checked _ _ (c .before .before .before .before .before .before .check .ensures) (answer _) (x .1))
 
 returns-3 : tie.Need-returns-3
@@ -64,7 +65,7 @@ tick-value-spec =
     add-next
     returns
     (λ c. search needs)
-    values-at-requires
+    two-at-requires
     sub-t11
     (λ c. search needs)
     returns-2

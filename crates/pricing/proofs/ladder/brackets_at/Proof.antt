@@ -1,57 +1,53 @@
 -- `brackets_at` meets its contract.
-use Prim.Native.Nat.{_-_}
+use Prim.Native.Nat.{_≤_, _-_}
+use mathlib.Core.Path.{_≡_, ap, _∙_}
+use native.Mathlib.Nat.{le-trans, le-antisymm}
 use native.Mathlib.Omega.{arith}
+use Rattle.pricing.specs.Rungs.{rungAt, nextOf}
+use Rattle.pricing.proofs.Climbing.{next-rung, rung-low-as, rung-bracket}
 use borrow.Author.Needs.{needs}
-use Rattle.pricing.proofs.Climbing.{Climbed, begin, next, step-low, product-low, ends-low, climbed}
 use Rattle.pricing.proofs.ladder.brackets_at.Statement.{statement}
 use Rattle.pricing.proofs.ladder.brackets_at.Tie as tie
 
 abbrev Inv-loop : tie.InvT-loop
-Inv-loop coupon halves p q first other v₀ w₀ sum₀ total₀ rung₀ v w sum total rung = Climbed p halves first v sum rung × Climbed q halves other w total rung
+Inv-loop coupon halves p q l₀ m₀ k₀ l m k = (1 ≤ k) × (k ≤ halves) × (l ≡ rungAt p k) × (m ≡ rungAt q k)
 
 abbrev μ-loop : tie.MeasureT-loop
-μ-loop coupon halves p q first other v₀ w₀ sum₀ total₀ rung₀ v w sum total rung = halves - rung
+μ-loop coupon halves p q l₀ m₀ k₀ l m k = halves - k
 
 loop-holds : tie.Need-loop-holds Inv-loop μ-loop
-loop-holds c = let n = c .before .before .pre .1 in (begin n (c .before .first-factor .ensures), begin n (c .first-factor2 .ensures))
+loop-holds c = (omega arith, c .before .before .pre .1, c .before .start .ensures, c .start2 .ensures)
 
-mul-descaled : tie.Need-mul-descaled Inv-loop μ-loop
-mul-descaled c = omega (arith, product-low (c .before .loop .inv .0) (c .before .before .before .before .pre .3))
+climb-requires : tie.Need-climb-requires Inv-loop μ-loop
+climb-requires c κs =
+    let s = c .before .before .before .before .pre in
+    rung-low-as _ _ (c .before .loop .inv .2) (s .3) (le-trans (c .before .loop .inv .1) (s .2))
 
-descaled-requires : tie.Need-descaled-requires Inv-loop μ-loop
-descaled-requires c κs = omega (arith, product-low (c .before .loop .inv .0) (c .before .before .before .before .pre .3))
-
-mul-descaled-2 : tie.Need-mul-descaled-2 Inv-loop μ-loop
-mul-descaled-2 c = omega (arith, product-low (c .before .before .loop .inv .1) (c .before .before .before .before .before .pre .4))
-
-descaled-requires-2 : tie.Need-descaled-requires-2 Inv-loop μ-loop
-descaled-requires-2 c κs = omega (arith, product-low (c .before .before .loop .inv .1) (c .before .before .before .before .before .pre .4))
-
-add-sum : tie.Need-add-sum Inv-loop μ-loop
-add-sum c =
-    let s = c .before .before .before .before .before .before .pre in
-    omega (arith, step-low (c .before .before .before .loop .inv .0) (s .3) (s .2) (c .before .before .loop-test .taken) (c .before .descaled .ensures))
-
-add-total : tie.Need-add-total Inv-loop μ-loop
-add-total c =
-    let s = c .before .before .before .before .before .before .pre in
-    omega (arith, step-low (c .before .before .before .loop .inv .1) (s .4) (s .2) (c .before .before .loop-test .taken) (c .descaled2 .ensures))
+climb-requires-2 : tie.Need-climb-requires-2 Inv-loop μ-loop
+climb-requires-2 c κs =
+    let s = c .before .before .before .before .before .pre in
+    rung-low-as _ _ (c .before .before .loop .inv .3) (s .4) (le-trans (c .before .before .loop .inv .1) (s .2))
 
 loop-again : tie.Need-loop-again Inv-loop μ-loop
 loop-again c =
-    let h = c .before .before .loop-test .taken in
-    (next (c .before .before .before .loop .inv .0) _ h (c .before .descaled .ensures), next (c .before .before .before .loop .inv .1) _ h (c .descaled2 .ensures))
+    let at = c .before .before .before .loop .inv in
+    (omega arith, omega arith, c .before .climb .ensures ∙ ap nextOf (at .2) ∙ next-rung _ (at .0), c .climb2 .ensures ∙ ap nextOf (at .3) ∙ next-rung _ (at .0))
 
 bracket-of-requires : tie.Need-bracket-of-requires Inv-loop μ-loop
-bracket-of-requires c κs = let s = c .before .before .before .before .pre in ends-low (c .before .loop .inv .0) (s .3) (s .2) (s .0)
+bracket-of-requires c κs =
+    let s = c .before .before .before .before .pre in
+    (s .0, rung-low-as _ _ (c .before .loop .inv .2) (s .3) (le-trans (c .before .loop .inv .1) (s .2)))
 
 bracket-of-requires-2 : tie.Need-bracket-of-requires-2 Inv-loop μ-loop
-bracket-of-requires-2 c κs = let s = c .before .before .before .before .before .pre in ends-low (c .before .before .loop .inv .1) (s .4) (s .2) (s .0)
+bracket-of-requires-2 c κs =
+    let s = c .before .before .before .before .before .pre in
+    (s .0, rung-low-as _ _ (c .before .before .loop .inv .3) (s .4) (le-trans (c .before .before .loop .inv .1) (s .2)))
 
 returns : tie.Need-returns Inv-loop μ-loop
 returns c =
-    let h = c .before .before .loop-test .left in
-    (climbed _ (c .before .before .before .loop .inv .0) h (c .before .bracket-of .ensures), climbed _ (c .before .before .before .loop .inv .1) h (c .bracket-of2 .ensures))
+    let at = c .before .before .before .loop .inv in
+    let top = le-antisymm (at .1) (c .before .before .loop-test .left) in
+    (rung-bracket _ _ _ (rw top at (at .2)) (c .before .bracket-of .ensures), rung-bracket _ _ _ (rw top at (at .3)) (c .bracket-of2 .ensures))
 
 pub brackets-at-spec : {M : Type 1} → statement M
 brackets-at-spec =
@@ -62,12 +58,8 @@ brackets-at-spec =
     (λ c κs. search needs)
     (λ c κs. search needs)
     loop-holds
-    mul-descaled
-    descaled-requires
-    mul-descaled-2
-    descaled-requires-2
-    add-sum
-    add-total
+    climb-requires
+    climb-requires-2
     (λ c. search needs)
     (λ c. search needs)
     loop-again

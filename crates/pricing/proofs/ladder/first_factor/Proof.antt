@@ -7,14 +7,14 @@ use Rattle.pricing.specs.Value.{scale, bondDivisor}
 use Rattle.pricing.proofs.ladder.first_factor.Statement.{statement}
 use Rattle.pricing.proofs.ladder.first_factor.Tie as tie
 
-sub-nearest : tie.Need-sub-nearest
+sub-rounded : tie.Need-sub-rounded
 unfolding priceLimit
-sub-nearest c = omega arith
+sub-rounded c = omega arith
 
 returns : tie.Need-returns
 unfolding scale bondDivisor yieldAt par
-returns c = c .nearest .ensures
+returns c = c .rounded .ensures
 
 pub first-factor-spec : {M : Type 1} → statement M
 first-factor-spec =
-    tie.close (tie.spec (λ c. search needs) sub-nearest (λ c. search needs) (λ c κs. search needs) returns)
+    tie.close (tie.spec (λ c. search needs) sub-rounded (λ c. search needs) (λ c κs. search needs) returns)

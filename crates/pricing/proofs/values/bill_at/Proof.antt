@@ -9,22 +9,25 @@ use Rattle.pricing.specs.Value.{billDividend, billDivisor, valueBy}
 use Rattle.pricing.proofs.values.bill_at.Statement.{statement}
 use Rattle.pricing.proofs.values.bill_at.Tie as tie
 
-sub-nearest : tie.Need-sub-nearest
+sub-rounded : tie.Need-sub-rounded
 unfolding priceLimit
-sub-nearest c = omega arith
+sub-rounded c = omega arith
 
 interest : (c : tie.Start) → c .args .days * (1_000_000 - c .args .p) ≤ 100 * 1_000_000
 interest c = mul-le-mul {m₂ = 1_000_000} (c .pre .0 .1) (omega arith)
 
-mul-nearest-5 : tie.Need-mul-nearest-5
-mul-nearest-5 c = omega (arith, interest c)
+mul-rounded-5 : tie.Need-mul-rounded-5
+mul-rounded-5 c = omega (arith, interest c)
 
-add-nearest : tie.Need-add-nearest
-add-nearest c = omega (arith, interest c)
+add-rounded : tie.Need-add-rounded
+add-rounded c = omega (arith, interest c)
+
+rounded-requires : tie.Need-rounded-requires
+rounded-requires c κs = (omega (arith, interest c), omega (arith, c .pre .0 .0), omega (arith, interest c))
 
 returns : tie.Need-returns
 unfolding valueBy billDividend billDivisor yieldAt par
-returns c = c .nearest .ensures
+returns c = c .rounded .ensures
 
 pub bill-at-spec : {M : Type 1} → statement M
 bill-at-spec =
@@ -34,8 +37,8 @@ bill-at-spec =
     (λ c. search needs)
     (λ c. search needs)
     (λ c. search needs)
-    sub-nearest
-    mul-nearest-5
-    add-nearest
-    (λ c κs. search needs)
+    sub-rounded
+    mul-rounded-5
+    add-rounded
+    rounded-requires
     returns)

@@ -1,19 +1,22 @@
 -- `cash_at` meets its contract.
+use Prim.Native.Nat.{_*_, _≤_}
 use native.Mathlib.Nat.{mul-le-mul}
 use native.Mathlib.Omega.{arith}
-use borrow.Author.Needs.{needs}
 use Rattle.products.specs.Products.{priceLimit}
 use Rattle.pricing.specs.Value.{valueBy}
 use Rattle.pricing.proofs.values.cash_at.Statement.{statement}
 use Rattle.pricing.proofs.values.cash_at.Tie as tie
 
-mul-nearest : tie.Need-mul-nearest
+product : (c : tie.Start) → c .args .cents * c .args .p ≤ 10_000 * 1_000_000
 unfolding priceLimit
-mul-nearest c = omega (arith, mul-le-mul (c .pre .0) (c .pre .1))
+product c = mul-le-mul (c .pre .0) (c .pre .1)
+
+rounded-requires : tie.Need-rounded-requires
+rounded-requires c κs = (omega arith, omega (arith, product c), omega arith)
 
 returns : tie.Need-returns
 unfolding valueBy
-returns c = c .nearest .ensures
+returns c = c .rounded .ensures
 
 pub cash-at-spec : {M : Type 1} → statement M
-cash-at-spec = tie.close (tie.spec mul-nearest (λ c κs. search needs) returns)
+cash-at-spec = tie.close (tie.spec (λ c. omega (arith, product c)) rounded-requires returns)

@@ -1,0 +1,25 @@
+-- `worth_by` meets its contract.
+use Rattle.pricing.proofs.Answers.{passed}
+use borrow.Author.Needs.{needs}
+use Rattle.pricing.proofs.valuing.worth_by.Statement.{statement}
+use Rattle.pricing.proofs.valuing.worth_by.Tie as tie
+
+value-at-requires : tie.Need-value-at-requires
+value-at-requires c κs = (c .before .before .before .pre, passed _ _ (c .before .before .judge .ensures) (c .enum-told .given .1) .0)
+
+returns : tie.Need-returns
+returns c = rw (← c .before .before .before .judge .ensures, c .before .enum-told .given .1) (c .value-at .ensures)
+
+returns-2 : tie.Need-returns-2
+returns-2 c = rw (← c .before .before .judge .ensures, c .enum-told2 .given .1)
+
+pub worth-by-spec : {M : Type 1} → statement M
+worth-by-spec =
+    tie.close
+    (tie.spec
+    (λ c κs. search needs)
+    (λ c. search needs)
+    value-at-requires
+    (λ c. search needs)
+    returns
+    returns-2)

@@ -1,0 +1,24 @@
+-- `worths_by` meets its contract.
+use borrow.Author.Needs.{needs}
+use Rattle.pricing.proofs.valuing.worths_by.Statement.{statement}
+use Rattle.pricing.proofs.valuing.worths_by.Tie as tie
+
+bond-worths-requires : tie.Need-bond-worths-requires
+bond-worths-requires c κs = rw (c .before .t .given .1) at (c .before .before .before .pre)
+
+returns-2 : tie.Need-returns-2
+returns-2 c = rw (c .before .before .t .given .1) (c .bond-worths .ensures)
+
+pub worths-by-spec : {M : Type 1} → statement M
+worths-by-spec =
+    tie.close
+    (tie.spec
+    (λ c. search needs)
+    (λ c κs. search needs)
+    (λ c. search needs)
+    bond-worths-requires
+    (λ c. search needs)
+    (λ c κs. search needs)
+    (λ c. search needs)
+    returns-2
+    (λ c. search needs))
