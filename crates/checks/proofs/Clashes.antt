@@ -8,9 +8,9 @@ use lib.Dec.{eqb, ltb}
 use borrow.Author.Tests.{eqb-true, eqb-false, ltb-true, ltb-false}
 use Rattle.numbers.specs.Folds.{first, last}
 use Rattle.dayfile.specs.Records.{correctionAt}
-use Rattle.pairs.specs.Pairs.{sameNumber, numberPair}
+use Rattle.pairs.specs.Pairs.{sameNumber, numberPair, repeating}
 use Rattle.checks.specs.Faults.{clashing}
-use Rattle.checks.specs.Checks.{clashPair, repeating}
+use Rattle.checks.specs.Checks.{clashPair}
 use Rattle.checks.specs.Told.{clashesBelow}
 use Rattle.dayfile.specs.declared.records.Correction.{Correction}
 use Rattle.numbers.specs.declared.Found.the-variants.{Nothing}

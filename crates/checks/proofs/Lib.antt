@@ -2,3 +2,5 @@ pub mod Passed
 mod Judgements
 mod Clashes
 mod Repeats
+mod Sweeping
+mod RawLots

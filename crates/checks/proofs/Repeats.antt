@@ -7,9 +7,9 @@ use lib.Dec.{eqb}
 use lib.ListN.{getD, drop, replicate}
 use Rattle.numbers.specs.Folds.{first, isAt}
 use Rattle.dayfile.specs.Records.{Lists}
-use Rattle.pairs.specs.Pairs.{longest, pairing, sizeOf, earlierOf, earliersOf, numberPair}
-use Rattle.checks.specs.Checks.{clashPair, repeating, ruleOf}
-use Rattle.checks.specs.Told.{Lasts, Numbers, clashesBelow, Reached}
+use Rattle.pairs.specs.Pairs.{longest, pairing, sizeOf, earlierOf, earliersOf, numberPair, repeating}
+use Rattle.checks.specs.Checks.{clashPair, ruleOf}
+use Rattle.checks.specs.Told.{Lasts, clashesBelow, Reached}
 use Rattle.dayfile.specs.declared.records.Correction.{Correction}
 use Rattle.pairs.specs.declared.keys.Pair.{Pair}
 use Rattle.checks.specs.declared.order.Check.the-variants.{MarkRepeated, CorrectionClash}

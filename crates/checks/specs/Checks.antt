@@ -3,9 +3,9 @@ use Prim.Native.Nat.{ℕ}
 use mathlib.Core.Bool.{Bool}
 use mathlib.Core.List.{List, [], _∷_, foldl}
 use lib.ListN.{length}
-use Rattle.numbers.specs.Folds.{first, some}
+use Rattle.numbers.specs.Folds.{first}
 use Rattle.dayfile.specs.Records.{Lists, markAt, correctionAt, positionAt}
-use Rattle.pairs.specs.Pairs.{contractPair}
+use Rattle.pairs.specs.Pairs.{contractPair, repeating}
 use Rattle.checks.specs.Faults.{badCode, badDate, highMark, offMark, noMark, badPrice, clashing, badLots}
 use Rattle.dayfile.specs.declared.records.Mark.{Mark}
 use Rattle.dayfile.specs.declared.records.Correction.{Correction}
@@ -20,10 +20,6 @@ use Rattle.checks.specs.declared.order.Verdict.the-variants.{Passed, Fai
 -- the corrections with indices i and k clash
 abbrev pub clashPair : List Correction → ℕ → ℕ → Bool
 clashPair cs i k = clashing (correctionAt cs i) (correctionAt cs k)
-
--- record i makes a pair with an earlier one
-abbrev pub repeating : (ℕ → ℕ → Bool) → ℕ → Bool
-repeating pair i = some (pair i) i
 
 -- a check: how it tests the record with index i, and over how many records
 pub record Rule : Type 0 where

@@ -6,8 +6,8 @@ use Rattle.numbers.specs.Folds.{count}
 use Rattle.dayfile.specs.Limits.{Limits}
 use Rattle.dayfile.specs.Records.{Lists}
 use Rattle.dayfile.specs.Layout.{openedOf, listsIn}
-use Rattle.pairs.specs.Pairs.{numberPair}
-use Rattle.checks.specs.Checks.{repeating, verdictOf, numberOf}
+use Rattle.pairs.specs.Pairs.{numberPair, repeating}
+use Rattle.checks.specs.Checks.{verdictOf, numberOf}
 use Rattle.dayfile.specs.declared.records.Correction.{Correction}
 use Rattle.dayfile.specs.declared.file.DayFile.{DayFile}
 use Rattle.dayfile.specs.declared.file.Opened.{Opened}

@@ -4,3 +4,4 @@ pub mod Checks
 pub mod Judging
 pub mod Told
 pub mod Steps
+pub mod Sweeps

@@ -6,8 +6,8 @@ use mathlib.Core.List.{List}
 use lib.ListN.{length}
 use Rattle.numbers.specs.Folds.{first, last, Holds}
 use Rattle.dayfile.specs.Records.{Lists}
-use Rattle.pairs.specs.Pairs.{contractPair, numberPair, longest}
-use Rattle.checks.specs.Checks.{clashPair, repeating, ruleOf}
+use Rattle.pairs.specs.Pairs.{contractPair, numberPair, longest, repeating}
+use Rattle.checks.specs.Checks.{clashPair, ruleOf}
 use Rattle.checks.specs.Judging.{resentOf}
 use Rattle.dayfile.specs.declared.records.Mark.{Mark}
 use Rattle.dayfile.specs.declared.records.Correction.{Correction}
@@ -31,9 +31,6 @@ toldOf l = toldFrom (l .marks) (l .corrections)
 pub record Lasts (pair : ℕ → ℕ → Bool) (n : ℕ) (e : List ℕ) : Type 0 where
   pub few : n ≤ longest
   pub lasts : Holds 0 (λ i. last (pair i) i) n e
-
-abbrev pub Contracts : List Mark → List ℕ → Type 0
-Contracts ms e = Lasts (contractPair ms) (length ms) e
 
 abbrev pub Numbers : List Correction → List ℕ → Type 0
 Numbers cs e = Lasts (numberPair cs) (length cs) e

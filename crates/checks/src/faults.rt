@@ -9,7 +9,7 @@ ghost use mathlib.Core.Path.{_≡_};
 ghost use Rattle.dayfile.specs.Records.{marksIn, markAt};
 ghost use Rattle.checks.specs.Faults.{offTick, badCode, badDate, highMark, offMark, noMark, badPrice, clashing, badLots};
 
-const YEAR_LIMIT: u8 = 99;
+pub(crate) const YEAR_LIMIT: u8 = 99;
 
 const LEAST_LOTS: i64 = -1_000_000;
 

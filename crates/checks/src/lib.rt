@@ -2,6 +2,7 @@
 mod faults;
 mod judging;
 mod order;
+mod sweeps;
 mod table;
 mod told;
 

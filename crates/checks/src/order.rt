@@ -6,6 +6,7 @@ use crate::faults::correction_off;
 use crate::faults::high_mark;
 use crate::faults::no_mark;
 use crate::faults::off_mark;
+use crate::sweeps::all_clear;
 use crate::told::Told;
 use dayfile::correction_at;
 use dayfile::correction_count;
@@ -17,6 +18,7 @@ use numbers::Found;
 ghost use mathlib.Core.Path.{_≡_};
 ghost use Rattle.numbers.specs.Folds.{isAt};
 ghost use Rattle.dayfile.specs.Records.{listsOf};
+ghost use Rattle.dayfile.specs.Steps.{Small};
 ghost use Rattle.checks.specs.Checks.{ruleOf, findingOf, numberOf, thenCheck, verdictOf};
 ghost use Rattle.checks.specs.Told.{toldOf, Reached};
 
@@ -132,8 +134,8 @@ impl Verdict {
     }
 }
 
-// All checks over the records, in their order.
-pub(crate) fn checked(marks: &[u8], corrections: &[u8], positions: &[u8], told: Told) -> Verdict
+// All checks over the records, one after the other in their order.
+fn searched(marks: &[u8], corrections: &[u8], positions: &[u8], told: Told) -> Verdict
     requires { ⌜ told ≡ toldOf (listsOf (now marks) (now corrections) (now positions)) ⌝ }
     ensures { λ r. ⌜ r ≡ verdictOf (listsOf (now (marks .entry)) (now (corrections .entry)) (now (positions .entry))) ⌝ }
 {
@@ -148,6 +150,17 @@ pub(crate) fn checked(marks: &[u8], corrections: &[u8], positions: &[u8], told: 
     let v = v.then(marks, corrections, positions, told, Check::CorrectionClash);
     let v = v.then(marks, corrections, positions, told, Check::PositionMark);
     v.then(marks, corrections, positions, told, Check::Lots)
+}
+
+// What all checks over the records say. They are searched only where something is wrong.
+pub(crate) fn checked(marks: &[u8], corrections: &[u8], positions: &[u8], told: Told) -> Verdict
+    requires { ⌜ Small (listsOf (now marks) (now corrections) (now positions)) × (told ≡ toldOf (listsOf (now marks) (now corrections) (now positions))) ⌝ }
+    ensures { λ r. ⌜ r ≡ verdictOf (listsOf (now (marks .entry)) (now (corrections .entry)) (now (positions .entry))) ⌝ }
+{
+    if all_clear(marks, corrections, positions, told) {
+        return Verdict::Passed;
+    }
+    searched(marks, corrections, positions, told)
 }
 
 // Document 01's number of a check.

@@ -2,11 +2,11 @@
 use crate::faults::clashing;
 use dayfile::correction_at;
 use dayfile::correction_count;
-use dayfile::mark_count;
 use numbers::Found;
 use pairs::LONGEST;
 use pairs::Pair;
 use pairs::earlier;
+use pairs::first_repeated;
 ghost use mathlib.Core.Path.{_≡_};
 ghost use mathlib.Core.Bool.{not};
 ghost use Prim.Native.Nat.{_≤_};
@@ -15,10 +15,10 @@ ghost use lib.ListN.{length};
 ghost use Rattle.numbers.specs.Folds.{first};
 ghost use Rattle.dayfile.specs.Limits.{fileLimits};
 ghost use Rattle.dayfile.specs.Records.{marksIn, correctionsIn};
-ghost use Rattle.pairs.specs.Pairs.{contractPair};
-ghost use Rattle.checks.specs.Checks.{clashPair, repeating};
+ghost use Rattle.pairs.specs.Pairs.{repeating};
+ghost use Rattle.checks.specs.Checks.{clashPair};
 ghost use Rattle.checks.specs.Judging.{resentOf};
-ghost use Rattle.checks.specs.Told.{clashesBelow, Contracts, Numbers, toldFrom};
+ghost use Rattle.checks.specs.Told.{clashesBelow, Numbers, toldFrom};
 ghost use Rattle.checks.specs.Steps.{bit};
 
 // What checks 8 and 11 find in a file, and its resent count.
@@ -43,22 +43,6 @@ fn one_if(b: bool) -> usize
     ensures { λ r. ⌜ (r ≡ bit b) × (r ≤ 1) ⌝ }
 {
     if b { 1 } else { 0 }
-}
-
-// The first mark that agrees with an earlier one in code, month and year.
-fn first_repeated(marks: &[u8], contracts: &[u16; LONGEST]) -> Found
-    requires { ⌜ Contracts (marksIn (now marks)) (now contracts) ⌝ }
-    ensures { λ r. ⌜ r ≡ first (repeating (contractPair (marksIn (now (marks .entry))))) (length (marksIn (now (marks .entry)))) ⌝ }
-{
-    let n = mark_count(marks);
-    let mut i = 0;
-    while i < n {
-        if is_some(contracts[i]) {
-            return Found::At(i);
-        }
-        i += 1;
-    }
-    Found::Nothing
 }
 
 // Whether correction i clashes with correction k − 1; it does not where k is 0.
@@ -110,10 +94,9 @@ pub(crate) fn look_for_pairs(marks: &[u8], corrections: &[u8]) -> Told
     requires { ⌜ (length (marksIn (now marks)) ≤ fileLimits .marks) × (length (correctionsIn (now corrections)) ≤ fileLimits .corrections) ⌝ }
     ensures { λ r. ⌜ r ≡ toldFrom (marksIn (now (marks .entry))) (correctionsIn (now (corrections .entry))) ⌝ }
 {
-    let contracts = earlier(marks, Pair::Contract);
     let numbers = earlier(corrections, Pair::Number);
     Told {
-        repeated: first_repeated(marks, &contracts),
+        repeated: first_repeated(marks, Pair::Contract),
         clash: first_clash(corrections, &numbers),
         resent: resent_count(corrections, &numbers),
     }

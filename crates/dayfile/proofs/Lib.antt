@@ -2,4 +2,4 @@ pub mod Opening
 pub mod Parts
 pub mod Made
 mod Header
-mod Fields
+pub mod Fields

@@ -6,6 +6,7 @@ use Rattle.numbers.specs.Bytes.{byteAt, u32At, signed, recordsOf}
 use Rattle.dayfile.specs.declared.records.Mark.{Mark}
 use Rattle.dayfile.specs.declared.records.Correction.{Correction}
 use Rattle.dayfile.specs.declared.records.Position.{Position}
+use Rattle.dayfile.specs.declared.records.RawPosition.{RawPosition}
 
 -- the sizes of the records, in bytes
 abbrev pub markSize : ℕ
@@ -33,6 +34,10 @@ correctionOf r = record { number = u32At r 0; mark = u32At r 4; price = u32At r 
 abbrev pub positionOf : List ℕ → Position
 positionOf r = record { account = u32At r 0; mark = u32At r 4; lots = signed (u32At r 8) }
 
+-- a position as its bytes have it, the lots in two's complement
+abbrev pub rawPositionOf : List ℕ → RawPosition
+rawPositionOf r = record { account = u32At r 0; mark = u32At r 4; lots = u32At r 8 }
+
 -- the records of a section
 abbrev pub marksIn : List ℕ → List Mark
 marksIn s = map markOf (recordsOf markSize s)
@@ -43,6 +48,9 @@ correctionsIn s = map correctionOf (recordsOf correctionSize s)
 abbrev pub positionsIn : List ℕ → List Position
 positionsIn s = map positionOf (recordsOf positionSize s)
 
+abbrev pub rawPositionsIn : List ℕ → List RawPosition
+rawPositionsIn s = map rawPositionOf (recordsOf positionSize s)
+
 -- the record with index i, all zero where there is none
 unfoldable pub markAt : List Mark → ℕ → Mark
 markAt ms i = getD ms i (markOf [])
@@ -52,6 +60,9 @@ correctionAt cs i = getD cs i (correctionOf [])
 
 unfoldable pub positionAt : List Position → ℕ → Position
 positionAt ps i = getD ps i (positionOf [])
+
+unfoldable pub rawPositionAt : List RawPosition → ℕ → RawPosition
+rawPositionAt ws i = getD ws i (rawPositionOf [])
 
 -- what the checks and the settlement look at: the three lists
 pub record Lists : Type 0 where

@@ -3,9 +3,9 @@ use crate::bytes::u32_at;
 use numbers::as_signed;
 use products::Code;
 ghost use mathlib.Core.Path.{_≡_};
-ghost use Prim.Native.Nat.{_≤_, _/_};
+ghost use Prim.Native.Nat.{_≤_};
 ghost use lib.ListN.{length};
-ghost use Rattle.dayfile.specs.Records.{markSize, correctionSize, positionSize, markOf, correctionOf, positionOf, marksIn, correctionsIn, positionsIn, markAt, correctionAt, positionAt};
+ghost use Rattle.dayfile.specs.Records.{markSize, correctionSize, positionSize, markOf, correctionOf, marksIn, correctionsIn, positionsIn, markAt, correctionAt, positionAt, rawPositionOf, rawPositionsIn, rawPositionAt};
 
 pub struct Mark {
     pub code: Code,
@@ -25,6 +25,13 @@ pub struct Position {
     pub account: u32,
     pub mark: usize,
     pub lots: i64,
+}
+
+// A position as its bytes have it: three numbers of 32 bits, the lots in two's complement. The compiler takes four such positions at a time.
+pub struct RawPosition {
+    pub account: u32,
+    pub mark: u32,
+    pub lots: u32,
 }
 
 impl Mark {
@@ -101,15 +108,32 @@ pub fn correction_at(s: &[u8], i: usize) -> Correction
     }
 }
 
-// The position of a record's bytes.
-fn position_of(r: &[u8]) -> Position
+// The position of a record's bytes, as they stand.
+fn raw_position_of(r: &[u8]) -> RawPosition
     requires { ⌜ positionSize ≤ length (now r) ⌝ }
-    ensures { λ p. ⌜ p ≡ positionOf (now (r .entry)) ⌝ }
+    ensures { λ w. ⌜ w ≡ rawPositionOf (now (r .entry)) ⌝ }
 {
-    Position {
+    RawPosition {
         account: u32_at(r, 0),
-        mark: u32_at(r, 4) as usize,
-        lots: as_signed(u32_at(r, 8)),
+        mark: u32_at(r, 4),
+        lots: u32_at(r, 8),
+    }
+}
+
+// The position with index i as its bytes have it, all zero where there is none.
+pub fn raw_position_at(s: &[u8], i: usize) -> RawPosition
+    ensures { λ r. ⌜ r ≡ rawPositionAt (rawPositionsIn (now (s .entry))) i ⌝ }
+{
+    if i < s.len() / Position::SIZE {
+        let at = Position::SIZE * i;
+        let end = at + Position::SIZE;
+        raw_position_of(&s[at..end])
+    } else {
+        RawPosition {
+            account: 0,
+            mark: 0,
+            lots: 0,
+        }
     }
 }
 
@@ -117,16 +141,11 @@ fn position_of(r: &[u8]) -> Position
 pub fn position_at(s: &[u8], i: usize) -> Position
     ensures { λ r. ⌜ r ≡ positionAt (positionsIn (now (s .entry))) i ⌝ }
 {
-    if i < s.len() / Position::SIZE {
-        let at = Position::SIZE * i;
-        let end = at + Position::SIZE;
-        position_of(&s[at..end])
-    } else {
-        Position {
-            account: 0,
-            mark: 0,
-            lots: 0,
-        }
+    let raw = raw_position_at(s, i);
+    Position {
+        account: raw.account,
+        mark: raw.mark as usize,
+        lots: as_signed(raw.lots),
     }
 }
 

@@ -1,2 +1,3 @@
 pub mod Least
 mod Keyed
+mod Alone

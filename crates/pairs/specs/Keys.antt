@@ -21,8 +21,8 @@ unfoldable pub scattered : ℕ → ℕ
 scattered key = key * 2_654_435_761 % 4_294_967_296
 
 abbrev pub roots : ℕ
-roots = 4_096
+roots = 512
 
--- the tree's keys, and where their walks start: the twelve highest bits choose a root
+-- the tree's keys, and where their walks start: the nine highest bits choose a root
 abbrev pub keysOf : List ℕ → Pair → Keys
-keysOf s p = record { key = keyOf s p; roots = roots; root = λ x. scattered x / 1_048_576; rest = scattered }
+keysOf s p = record { key = keyOf s p; roots = roots; root = λ x. scattered x / 8_388_608; rest = scattered }

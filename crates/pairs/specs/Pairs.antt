@@ -4,7 +4,8 @@ use mathlib.Core.Bool.{Bool, cond, _&&_}
 use mathlib.Core.List.{List}
 use lib.Dec.{leb, eqb}
 use lib.ListN.{length, replicate}
-use Rattle.numbers.specs.Folds.{last, front}
+use Rattle.numbers.specs.Folds.{first, last, some, front}
+use Rattle.numbers.specs.declared.Found.{Found}
 use Rattle.dayfile.specs.Limits.{fileLimits}
 use Rattle.dayfile.specs.Records.{marksIn, correctionsIn, markAt, correctionAt}
 use Rattle.dayfile.specs.declared.records.Mark.{Mark}
@@ -35,6 +36,14 @@ pairing s Number = numberPair (correctionsIn s)
 abbrev pub sizeOf : List ℕ → Pair → ℕ
 sizeOf s Contract = length (marksIn s)
 sizeOf s Number = length (correctionsIn s)
+
+-- record i makes a pair with an earlier one
+abbrev pub repeating : (ℕ → ℕ → Bool) → ℕ → Bool
+repeating pair i = some (pair i) i
+
+-- the first of n records that does
+abbrev pub firstRepeated : (ℕ → ℕ → Bool) → ℕ → Found
+firstRepeated pair n = first (repeating pair) n
 
 -- one more than the index of the last earlier record that makes a pair with record i, or 0
 abbrev pub earlierOf : List ℕ → Pair → ℕ → ℕ

@@ -5,3 +5,4 @@ mod walks;
 pub use keys::Pair;
 pub use walks::LONGEST;
 pub use walks::earlier;
+pub use walks::first_repeated;

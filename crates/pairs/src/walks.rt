@@ -1,22 +1,23 @@
 // The last earlier record that makes a pair with a record: one with the same key. The first record of each key stands in a tree, and beside
-// it is kept the last record with this key. The walk of a key starts at one of 4,096 roots, and from a record with another key it goes on
-// to one of the two places below that record. The 32 low bits of a product lead it: the twelve highest choose the root, and one after the
+// it is kept the last record with this key. The walk of a key starts at one of 512 roots, and from a record with another key it goes on
+// to one of the two places below that record. The 32 low bits of a product lead it: the nine highest choose the root, and one after the
 // other the lowest choose the place below. Two different keys differ in one of the 32 bits, since a product with an odd number can be
-// undone modulo 2^32. So the longest walk goes past 20 records, whatever the keys are.
+// undone modulo 2^32. So the longest walk goes past 23 records, whatever the keys are.
 use crate::keys::Pair;
 use crate::keys::key;
 use crate::keys::size;
 use dayfile::DayFile;
+use numbers::Found;
 ghost use mathlib.Core.Path.{_≡_};
 ghost use Prim.Native.Nat.{_+_, _*_, _<_, _≤_};
 ghost use Rattle.numbers.specs.Trees.{nodeOf, WalkOf, Grown};
-ghost use Rattle.pairs.specs.Pairs.{longest, least, earliersOf};
+ghost use Rattle.pairs.specs.Pairs.{longest, least, pairing, sizeOf, firstRepeated, earliersOf};
 ghost use Rattle.pairs.specs.Keys.{roots, scattered, keysOf};
 
 // How many records of a section are looked at: a file within the limits never has more marks or corrections.
 pub const LONGEST: usize = DayFile::MAX_CORRECTIONS;
 
-const ROOTS: usize = 4_096;
+const ROOTS: usize = 512;
 
 // The roots, and two places below each record.
 const PLACES: usize = ROOTS + 2 * LONGEST;
@@ -42,7 +43,7 @@ fn walk(section: &[u8], p: Pair, place: &[u16; PLACES], i: usize) -> usize
 {
     let x = key(section, p, i);
     let mut rest = scatter(x);
-    let mut at = rest / 1_048_576;
+    let mut at = rest / 8_388_608;
     let mut k = wide(place[at]);
     while k != 0 {
         let j = k - 1;
@@ -90,4 +91,22 @@ pub fn earlier(section: &[u8], p: Pair) -> [u16; LONGEST]
         last[j] = i as u16;
     }
     found
+}
+
+// The first record of a section that makes a pair with an earlier one. Records behind the first LONGEST are not looked at.
+pub fn first_repeated(section: &[u8], p: Pair) -> Found
+    ensures { λ r. ⌜ r ≡ firstRepeated (pairing (now (section .entry)) p) (least longest (sizeOf (now (section .entry)) p)) ⌝ }
+{
+    let n = at_most(size(section, p));
+    let mut place = [0u16; PLACES];
+    let mut i = 0;
+    while i < n {
+        let at = walk(section, p, &place, i);
+        if wide(place[at]) != 0 {
+            return Found::At(i);
+        }
+        i += 1;
+        place[at] = i as u16;
+    }
+    Found::Nothing
 }

@@ -20,7 +20,7 @@ judge-records-spec =
     tie.close
     (tie.spec
     look-for-pairs-requires
-    (λ c κs. c .look-for-pairs .ensures)
+    (λ c κs. (c .before .before .before .before .pre, c .look-for-pairs .ensures))
     (λ c. search needs)
     (λ c κs. search needs)
     (λ c. search needs)

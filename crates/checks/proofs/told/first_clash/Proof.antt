@@ -4,7 +4,8 @@ use native.Mathlib.Omega.{arith}
 use lib.ListN.{length}
 use Rattle.numbers.specs.Folds.{first}
 use Rattle.dayfile.specs.Records.{correctionsIn}
-use Rattle.checks.specs.Checks.{clashPair, repeating}
+use Rattle.pairs.specs.Pairs.{repeating}
+use Rattle.checks.specs.Checks.{clashPair}
 use Rattle.numbers.specs.declared.Found.the-variants.{Nothing}
 use Rattle.numbers.proofs.Chain.{at-end}
 use Rattle.numbers.proofs.Searches.{first-none, first-more, first-here}

@@ -5,8 +5,7 @@ use native.Mathlib.Omega.{arith}
 use native.Mathlib.Numerals.{add-one}
 use Rattle.numbers.specs.Folds.{count}
 use Rattle.dayfile.specs.Records.{correctionsIn}
-use Rattle.pairs.specs.Pairs.{numberPair}
-use Rattle.checks.specs.Checks.{repeating}
+use Rattle.pairs.specs.Pairs.{numberPair, repeating}
 use Rattle.numbers.proofs.Chain.{at-end}
 use Rattle.checks.proofs.Repeats.{repeats}
 use borrow.Author.Needs.{needs}

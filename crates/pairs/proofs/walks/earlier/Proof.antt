@@ -17,14 +17,14 @@ use Rattle.pairs.proofs.walks.earlier.Tie as tie
 
 abbrev Inv-loop : tie.InvT-loop
 Inv-loop section p n place₀ last₀ found₀ i₀ place last found i =
-    ((i ≤ n) × (length place ≡ 5120) × (length last ≡ longest) × (length found ≡ longest))
+    ((i ≤ n) × (length place ≡ 1536) × (length last ≡ longest) × (length found ≡ longest))
     × Tree (keysOf section p) i place last × (found ≡ front (earlierOf section p) (replicate longest 0) i)
 
 abbrev μ-loop : tie.MeasureT-loop
 μ-loop section p n place₀ last₀ found₀ i₀ place last found i = n - i
 
 loop-holds : tie.Need-loop-holds Inv-loop μ-loop
-loop-holds c = ((omega arith, refl, refl, refl), tree-start 5120 longest, refl)
+loop-holds c = ((omega arith, refl, refl, refl), tree-start 1536 longest, refl)
 
 walk-requires : tie.Need-walk-requires Inv-loop μ-loop
 walk-requires c κs = (c .before .before .loop .inv .1 .grown, omega arith)

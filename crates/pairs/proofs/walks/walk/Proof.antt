@@ -13,7 +13,7 @@ use Rattle.pairs.proofs.walks.walk.Tie as tie
 
 abbrev Inv-loop : tie.InvT-loop
 Inv-loop section p place i x rest₀ at₀ k₀ rest at k =
-    Leads (keysOf section p) place (keyOf section p i) (scattered (keyOf section p i)) (scattered (keyOf section p i) / 1048576) rest at
+    Leads (keysOf section p) place (keyOf section p i) (scattered (keyOf section p i)) (scattered (keyOf section p i) / 8388608) rest at
     × (k ≡ getD place at 0) × (k ≤ i) × (at < roots + 2 * i)
 
 abbrev μ-loop : tie.MeasureT-loop
@@ -29,7 +29,7 @@ loop-holds : tie.Need-loop-holds Inv-loop μ-loop
 loop-holds c = (
   rw (by-one scattered (c .before .before .scatter .ensures .0) (c .before .before .before .key .ensures)) leads-start,
   c .wide .ensures,
-  omega (arith, c .wide .ensures, c .before .before .before .before .before .pre .0 .filled (c .before .before .scatter .result / 1048576)),
+  omega (arith, c .wide .ensures, c .before .before .before .before .before .pre .0 .filled (c .before .before .scatter .result / 8388608)),
   omega (arith, c .before .before .scatter .ensures .1),
 )
 

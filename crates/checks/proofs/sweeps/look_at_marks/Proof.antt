@@ -1,0 +1,74 @@
+use Prim.Native.Nat.{_≤_, _<_, _-_}
+use mathlib.Core.Path.{_≡_, ap, _∙_}
+use native.Mathlib.Omega.{arith}
+use lib.ListN.{length, length-set}
+use Rattle.numbers.specs.Folds.{some, Holds}
+use Rattle.dayfile.specs.Limits.{fileLimits}
+use Rattle.dayfile.specs.Records.{marksIn, markAt}
+use Rattle.dayfile.specs.declared.records.Mark.{Mark}
+use Rattle.checks.specs.Table.{tickOf}
+use Rattle.checks.specs.Sweeps.{badMark, tickAt}
+use Rattle.numbers.proofs.Chain.{by-one, at-end}
+use Rattle.numbers.proofs.Held.{holds-none, holds-more}
+use Rattle.numbers.proofs.Searches.{some-start, some-next}
+use borrow.Author.Needs.{needs}
+use Rattle.checks.proofs.sweeps.look_at_marks.Statement.{statement}
+use Rattle.checks.proofs.sweeps.look_at_marks.Tie as tie
+
+abbrev Inv-loop : tie.InvT-loop
+Inv-loop marks ticks₀ n bad₀ i₀ ticks bad i =
+    ((i ≤ n) × (length ticks ≡ fileLimits .marks)) × (bad ≡ some (λ k. badMark (markAt (marksIn marks) k)) i) × Holds 0 (tickAt (marksIn marks)) i ticks
+
+abbrev μ-loop : tie.MeasureT-loop
+μ-loop marks ticks₀ n bad₀ i₀ ticks bad i = n - i
+
+loop-holds : tie.Need-loop-holds Inv-loop μ-loop
+loop-holds c = ((search needs, c .before .before .pre .1), some-start _, holds-none)
+
+inside : tie.Need-element-write-ticks Inv-loop μ-loop
+inside c = omega (arith, c .before .before .before .loop-test .taken, c .before .before .before .before .before .mark-count .ensures, c .before .before .before .before .before .before .before .pre .0)
+
+add-i : tie.Need-add-i Inv-loop μ-loop
+add-i c = omega arith
+
+loop-less : tie.Need-loop-less Inv-loop μ-loop
+loop-less c = omega arith
+
+loop-again : tie.Need-loop-again Inv-loop μ-loop
+loop-again c =
+    let at = c .before .before .before .before .loop in
+    let ms = marksIn (c .before .before .before .before .before .before .before .args .marks .now) in
+    let l = c .before .look .ensures in
+    let m = c .before .before .mark-at .ensures in
+    let h : at .i < length (at .ticks) = omega (arith, inside c, at .inv .0 .1) in (
+      (omega arith, simp length-set (at .inv .0 .1)),
+      some-next (λ k. badMark (markAt ms k)) (at .i) (at .inv .1) (by-one badMark (l .0) m),
+      holds-more h (by-one (λ (x : Mark). tickOf (x .code)) (l .1) m) (at .inv .2),
+    )
+
+returns : tie.Need-returns Inv-loop μ-loop
+returns c =
+    let at = c .before .loop in
+    let s = c .before .before .before .before in
+    let q = c .before .before .mark-count .ensures in
+    let bad = some (λ k. badMark (markAt (marksIn (s .args .marks .now)) k)) in (
+      at-end bad (at .inv .1) (at .inv .0 .0) (c .loop-test .left) ∙ ap bad q,
+      record { few = s .pre .0; ticks = record { entry = λ m h. at .inv .2 .entry m (omega (arith, q, h, c .loop-test .left)) } },
+    )
+
+pub look-at-marks-spec : {M : Type 1} → statement M
+look-at-marks-spec =
+    tie.close
+    (tie.spec
+    Inv-loop
+    μ-loop
+    (λ c κs. search needs)
+    loop-holds
+    (λ c κs. search needs)
+    (λ c κs. search needs)
+    (λ c. omega (arith, inside c))
+    inside
+    add-i
+    loop-less
+    loop-again
+    returns)

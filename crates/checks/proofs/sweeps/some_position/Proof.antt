@@ -1,0 +1,59 @@
+use Prim.Native.Nat.{_≤_, _-_}
+use mathlib.Core.Path.{_≡_, ap, _∙_}
+use native.Mathlib.Omega.{arith}
+use Rattle.numbers.specs.Folds.{some}
+use Rattle.dayfile.specs.Records.{marksIn, positionsIn, positionAt}
+use Rattle.checks.specs.Sweeps.{badPosition}
+use Rattle.numbers.proofs.Chain.{at-end}
+use Rattle.numbers.proofs.Searches.{some-start, some-next}
+use Rattle.checks.proofs.RawLots.{raw-bad}
+use borrow.Author.Needs.{needs}
+use Rattle.checks.proofs.sweeps.some_position.Statement.{statement}
+use Rattle.checks.proofs.sweeps.some_position.Tie as tie
+
+abbrev Inv-loop : tie.InvT-loop
+Inv-loop marks positions m n bad₀ i₀ bad i = (i ≤ n) × (bad ≡ some (λ k. badPosition (marksIn marks) (positionAt (positionsIn positions) k)) i)
+
+abbrev μ-loop : tie.MeasureT-loop
+μ-loop marks positions m n bad₀ i₀ bad i = n - i
+
+loop-holds : tie.Need-loop-holds Inv-loop μ-loop
+loop-holds c = (search needs, some-start _)
+
+add-i : tie.Need-add-i Inv-loop μ-loop
+add-i c = omega arith
+
+loop-less : tie.Need-loop-less Inv-loop μ-loop
+loop-less c = omega arith
+
+loop-again : tie.Need-loop-again Inv-loop μ-loop
+loop-again c =
+    let at = c .before .before .before .loop in
+    let a = c .before .before .before .before .before .before .before .before .before .args in
+    let ms = marksIn (a .marks .now) in
+    let count = c .before .before .before .before .before .narrow .ensures ∙ c .before .before .before .before .before .before .mark-count .ensures in
+    (omega arith, some-next (λ k. badPosition ms (positionAt (positionsIn (a .positions .now)) k)) (at .i) (at .inv .1) (raw-bad ms (a .positions .now) (at .i) count (c .before .raw-position-at .ensures) (search needs) (c .bad-raw .ensures)))
+
+returns : tie.Need-returns Inv-loop μ-loop
+returns c =
+    let at = c .before .loop in
+    let a = c .before .before .before .before .before .before .before .args in
+    let bad = some (λ k. badPosition (marksIn (a .marks .now)) (positionAt (positionsIn (a .positions .now)) k)) in
+    at-end bad (at .inv .1) (at .inv .0) (c .loop-test .left) ∙ ap bad (c .before .before .position-count .ensures)
+
+pub some-position-spec : {M : Type 1} → statement M
+some-position-spec =
+    tie.close
+    (tie.spec
+    Inv-loop
+    μ-loop
+    (λ c κs. search needs)
+    (λ c κs. search needs)
+    (λ c κs. search needs)
+    loop-holds
+    (λ c κs. search needs)
+    (λ c κs. search needs)
+    add-i
+    loop-less
+    loop-again
+    returns)
