@@ -20,7 +20,7 @@ use Rattle.checks.specs.declared.order.Verdict.the-variants.{Passed, Failed}
 use Rattle.dayfile.proofs.Opening.{Laid, opens, laid-opens}
 use Rattle.checks.proofs.Passed.{mark-in, lots-in}
 use Rattle.settlement.specs.Settling.{settled, accept, refuse, listsPlan, openedPlan, planOf, answerBy, answerOf}
-use Rattle.settlement.specs.Steps.{Payable}
+use Rattle.settlement.specs.Steps.{Payable, Named}
 
 pub payable : (l : Lists) → Accepted l → Payable (l .positions)
 payable l a =
@@ -29,6 +29,9 @@ payable l a =
       mark = λ i h. omega (arith, mark-in l (a .passed) i h, a .small .marks);
       lots = λ i h. lots-in l (a .passed) i h;
     }
+
+pub named : (l : Lists) → Accepted l → Named (l .marks) (l .positions)
+named l a = record { few = a .small .marks; mark = λ i h. mark-in l (a .passed) i h }
 
 pub record AcceptedFile (l : Limits) (f : List ℕ) (places : ℕ) : Type 0 where
   pub laid : Laid l f

@@ -8,9 +8,9 @@ use lib.Dec.{ltb}
 use borrow.Author.Tests.{ltb-true, ltb-false}
 use lib.ListN.{length, getD, drop, replicate, length-replicate}
 use lib.Seq.{getD-append-add, getD-drop}
-use lib.IntN.{ℤ, pos, natAbs, _-ℤ_, +ℤ-invr}
+use lib.IntN.{ℤ, pos, natAbs, _-ℤ_}
 use Rattle.settlement.proofs.Pricing.{worth-bound}
-use Rattle.numbers.specs.Folds.{table}
+use Rattle.numbers.specs.Folds.{table, front}
 use Rattle.dayfile.specs.Records.{markAt}
 use Rattle.dayfile.specs.Limits.{fileLimits}
 use Rattle.settlement.specs.Prices.{valueAt, changeOf}
@@ -25,11 +25,6 @@ module _ (ms : List Mark) (final : ℕ → ℕ) where
       → p ≡ final i → m ≡ markAt ms i → r ≡ changeOf ms final i
   unfolding changeOf
   change-by i {r = r} e1 e2 e3 e4 e5 = rw (← e5, ← e4, ← e2, ← e3) e1
-
-  -- equal prices, no change
-  pub change-none : (i : ℕ) {m : Mark} {p : ℕ} → p ≡ m .previous → p ≡ final i → m ≡ markAt ms i → pos 0 ≡ changeOf ms final i
-  unfolding changeOf
-  change-none i {m} e4 e5 e = rw (← e, ← e5, e4) (sym (+ℤ-invr (pos (valueAt m (m .previous)))))
 
   pub change-bound : (i : ℕ) → natAbs (changeOf ms final i) ≤ changeCap
   unfolding changeOf
@@ -50,21 +45,29 @@ zeros-at zero m = refl
 zeros-at (suc n) zero = refl
 zeros-at (suc n) (suc m) = zeros-at n m
 
-pub bounded : (ms : List Mark) (final : ℕ → ℕ) → Bounded (changesOf ms final)
+-- past what is filled in
+front-past : (f : ℕ → ℤ) (n m : ℕ) → n ≤ m → entryOf (front f blank n) m ≡ pos 0
 unfolding blank
+front-past f n m h =
+    let t : List ℤ = table f n in
+    let q : length t + (m - n) ≡ m = rw (length-table f n) (omega arith) in
+    ap (λ k. getD (t ++ drop n (replicate (fileLimits .marks) (pos 0))) k (pos 0)) (sym q) ∙ getD-append-add t (drop n (replicate (fileLimits .marks) (pos 0))) (m - n) (pos 0)
+    ∙ getD-drop n (replicate (fileLimits .marks) (pos 0)) (m - n) (pos 0) ∙ zeros-at (fileLimits .marks) (n + (m - n))
+
+-- past the last mark
+pub change-past : (ms : List Mark) (final : ℕ → ℕ) (m : ℕ) → length ms ≤ m → entryOf (changesOf ms final) m ≡ pos 0
+change-past ms final m h = front-past (changeOf ms final) (length ms) m h
+
+pub blank-at : (m : ℕ) → getD blank m (pos 0) ≡ pos 0
+unfolding blank
+blank-at m = zeros-at (fileLimits .marks) m
+
+bounded : (ms : List Mark) (final : ℕ → ℕ) → Bounded (changesOf ms final)
 bounded ms final = record { entries = λ m. go m (ltb m (length ms)) refl }
   where
-    past : (m : ℕ) → length ms ≤ m → entryOf (changesOf ms final) m ≡ pos 0
-    past m h =
-        let n : ℕ = length ms in
-        let t : List ℤ = table (changeOf ms final) n in
-        let q : length t + (m - n) ≡ m = rw (length-table (changeOf ms final) n) (omega arith) in
-        ap (λ k. getD (t ++ drop n (replicate (fileLimits .marks) (pos 0))) k (pos 0)) (sym q) ∙ getD-append-add t (drop n (replicate (fileLimits .marks) (pos 0))) (m - n) (pos 0)
-        ∙ getD-drop n (replicate (fileLimits .marks) (pos 0)) (m - n) (pos 0) ∙ zeros-at (fileLimits .marks) (n + (m - n))
-
     go : (m : ℕ) (b : Bool) → ltb m (length ms) ≡ b → natAbs (entryOf (changesOf ms final) m) ≤ changeCap
     go m true e = rw (change-at ms final m (ltb-true _ _ e)) (change-bound ms final m)
-    go m false e = rw (past m (ltb-false _ _ e)) (omega arith)
+    go m false e = rw (front-past (changeOf ms final) (length ms) m (ltb-false _ _ e)) (omega arith)
 
 pub bounded-as : (ms : List Mark) (final : ℕ → ℕ) {a : List ℤ} → a ≡ changesOf ms final → Bounded a
 bounded-as ms final e = rw e (bounded ms final)

@@ -12,8 +12,7 @@ use Rattle.dayfile.specs.Records.{correctionAt, markAt}
 use Rattle.settlement.specs.Prices.{AllIn, newerOf, latestOf, orToday, finalOf}
 use Rattle.dayfile.specs.declared.records.Mark.{Mark}
 use Rattle.dayfile.specs.declared.records.Correction.{Correction}
-use Rattle.settlement.specs.declared.prices.Latest.{Latest}
-use Rattle.settlement.specs.declared.prices.Latest.the-variants.{Never, Price}
+use Rattle.settlement.specs.Prices.{Latest, Never, Price}
 use mathlib.Core.Logic.{_≢_}
 use Rattle.settlement.specs.Prices.{FinalPrice, corrected, uncorrected}
 use Rattle.numbers.proofs.Searches.{extend}

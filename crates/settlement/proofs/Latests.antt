@@ -1,26 +1,61 @@
--- One pass over the corrections finds the highest-numbered one of each mark.
+-- One pass over the corrections finds the number and the price of the highest-numbered one of each mark.
 use mathlib.Core.Path.{_≡_, refl, sym, ap, _∙_}
+use mathlib.Core.Bool.{Bool, true, false, cond}
 use mathlib.Core.List.{List}
 use Prim.Native.Nat.{ℕ, suc, _+_, _≤_, _<_}
 use native.Mathlib.Numerals.{add-one}
 use native.Mathlib.Omega.{arith}
-use lib.IntN.{ℤ}
+use lib.Dec.{leb}
 use lib.ListN.{length, getD, set, replicate}
-use borrow.Author.Tests.{eq-eqb, ne-eqb}
+use borrow.Author.Tests.{eq-eqb, ne-eqb, le-leb}
 use Rattle.numbers.specs.Folds.{Holds}
 use Rattle.dayfile.specs.Limits.{fileLimits}
-use Rattle.dayfile.specs.Records.{correctionAt, markAt}
-use Rattle.settlement.specs.Prices.{newerOf, latestOf, orToday, finalOf, changeOf}
-use Rattle.settlement.specs.Steps.{EachLatest}
+use Rattle.dayfile.specs.Records.{correctionAt}
+use Rattle.settlement.specs.Prices.{Latest, Never, Price, newerOf, latestOf, orToday, finalOf}
+use Rattle.settlement.specs.Steps.{todayOf}
 use Rattle.dayfile.specs.declared.records.Mark.{Mark}
 use Rattle.dayfile.specs.declared.records.Correction.{Correction}
-use Rattle.settlement.specs.declared.prices.Latest.{Latest}
-use Rattle.settlement.specs.declared.prices.Latest.the-variants.{Never}
 use Rattle.numbers.proofs.Held.{holds-all, holds-set}
 
-pub latests-none : (cs : List Correction) → EachLatest cs 0 (replicate (fileLimits .marks) Never)
+-- the number that a correction must reach: 0 where there is none yet
+abbrev numberOf : Latest → ℕ
+numberOf Never = 0
+numberOf (Price n p) = n
+
+newer-number : (l : Latest) (c : Correction) → numberOf (newerOf l c) ≡ cond (leb (numberOf l) (c .number)) (c .number) (numberOf l)
+newer-number Never c = rw (le-leb 0 (c .number) (omega arith))
+newer-number (Price n p) c = go (leb n (c .number))
+  where
+    go : (b : Bool) → numberOf (cond b (Price (c .number) (c .price)) (Price n p)) ≡ cond b (c .number) n
+    go true = refl
+    go false = refl
+
+newer-price : (l : Latest) (c : Correction) (t : ℕ) → orToday (newerOf l c) t ≡ cond (leb (numberOf l) (c .number)) (c .price) (orToday l t)
+newer-price Never c t = rw (le-leb 0 (c .number) (omega arith))
+newer-price (Price n p) c t = go (leb n (c .number))
+  where
+    go : (b : Bool) → orToday (cond b (Price (c .number) (c .price)) (Price n p)) t ≡ cond b (c .price) p
+    go true = refl
+    go false = refl
+
+-- each mark's number and price after the first k corrections
+abbrev numberAt : List Correction → ℕ → ℕ → ℕ
+numberAt cs k m = numberOf (latestOf cs m k)
+
+abbrev priceAt : List Mark → List Correction → ℕ → ℕ → ℕ
+priceAt ms cs k m = orToday (latestOf cs m k) (todayOf ms m)
+
+pub record Standing (ms : List Mark) (cs : List Correction) (n k : ℕ) (numbers prices : List ℕ) : Type 0 where
+  pub number : Holds 0 (numberAt cs k) n numbers
+  pub price : Holds 0 (priceAt ms cs k) n prices
+
+pub standing-none : (ms : List Mark) (cs : List Correction) {n : ℕ} {prices : List ℕ} → n ≤ fileLimits .marks → Holds 0 (todayOf ms) n prices → Standing ms cs n 0 (replicate (fileLimits .marks) 0) prices
 unfolding latestOf
-latests-none cs = record { entry = holds-all (fileLimits .marks) Never (λ m. refl) .entry }
+standing-none ms cs h p =
+    record {
+      number = record { entry = λ m l. holds-all {f = numberAt cs 0} (fileLimits .marks) 0 (λ i. refl) .entry m (omega arith) };
+      price = record { entry = p .entry };
+    }
 
 module _ (cs : List Correction) (k : ℕ) where
   of-other : (m : ℕ) → (correctionAt cs k .mark ≡ m → ⊥) → latestOf cs m (suc k) ≡ latestOf cs m k
@@ -31,20 +66,38 @@ module _ (cs : List Correction) (k : ℕ) where
   unfolding latestOf
   of-named m e = rw (eq-eqb (correctionAt cs k .mark) m e)
 
-  -- a correction of no mark that a file can have
-  pub latests-same : {c : Correction} {a : List Latest} → c ≡ correctionAt cs k → fileLimits .marks ≤ c .mark → EachLatest cs k a → EachLatest cs (k + 1) a
-  latests-same {c} e h each =
-      rw add-one (record { entry = λ m l. each .entry m l ∙ sym (of-other m (λ q. let w = ap (λ (x : Correction). x .mark) e in omega arith)) })
+module _ (ms : List Mark) (cs : List Correction) (k : ℕ) {n : ℕ} {numbers prices : List ℕ} where
+  -- a correction of no mark of the file
+  pub standing-same : {c : Correction} → c ≡ correctionAt cs k → n ≤ c .mark → Standing ms cs n k numbers prices → Standing ms cs n (k + 1) numbers prices
+  standing-same {c} e h s =
+      let other : (m : ℕ) → m < n → latestOf cs m k ≡ latestOf cs m (suc k) = λ m l. sym (of-other cs k m (λ q. let w = ap (λ (x : Correction). x .mark) e in omega arith)) in
+      rw add-one
+      (record {
+        number = record { entry = λ m l. s .number .entry m l ∙ ap numberOf (other m l) };
+        price = record { entry = λ m l. s .price .entry m l ∙ ap (λ x. orToday x (todayOf ms m)) (other m l) };
+      })
 
   -- a correction of a mark
-  pub latests-more : {c : Correction} {a : List Latest} {v : Latest} → c ≡ correctionAt cs k → c .mark < fileLimits .marks → length a ≡ fileLimits .marks → EachLatest cs k a → v ≡ newerOf (getD a (c .mark) Never) c → EachLatest cs (k + 1) (set a (c .mark) v)
-  latests-more {c} {a} {v} e h size each p =
+  pub standing-more : {c : Correction} {b : Bool} {v w : ℕ} → c ≡ correctionAt cs k → c .mark < n → n ≤ length numbers → n ≤ length prices → Standing ms cs n k numbers prices
+      → b ≡ leb (getD numbers (c .mark) 0) (c .number) → v ≡ cond b (c .price) (getD prices (c .mark) 0) → w ≡ cond b (c .number) (getD numbers (c .mark) 0)
+      → Standing ms cs n (k + 1) (set numbers (c .mark) w) (set prices (c .mark) v)
+  standing-more {c} {b} {v} {w} e h few-n few-p s p q r =
       let mark : correctionAt cs k .mark ≡ c .mark = sym (ap (λ (x : Correction). x .mark) e) in
-      let held : Holds Never (λ m. latestOf cs m k) (fileLimits .marks) a = record { entry = each .entry } in
-      let now : v ≡ latestOf cs (c .mark) (suc k) = p ∙ ap (λ (x : Latest). newerOf x c) (each .entry (c .mark) h) ∙ ap (newerOf (latestOf cs (c .mark) k)) e ∙ sym (of-named (c .mark) mark) in
-      rw add-one (record { entry = holds-set {g = λ m. latestOf cs m (suc k)} (omega arith) now (λ m other. of-other m (λ q. other (sym q ∙ mark))) held .entry })
+      let l = latestOf cs (c .mark) k in
+      let after : latestOf cs (c .mark) (suc k) ≡ newerOf l c = of-named cs k (c .mark) mark ∙ ap (newerOf l) (sym e) in
+      let test : b ≡ leb (numberOf l) (c .number) = p ∙ ap (λ x. leb x (c .number)) (s .number .entry (c .mark) h) in
+      let number : w ≡ numberAt cs (suc k) (c .mark) = r ∙ ap (λ x. cond b (c .number) x) (s .number .entry (c .mark) h) ∙ ap (λ t. cond t (c .number) (numberOf l)) test ∙ sym (newer-number l c) ∙ ap numberOf (sym after) in
+      let price : v ≡ priceAt ms cs (suc k) (c .mark) =
+      q ∙ ap (λ x. cond b (c .price) x) (s .price .entry (c .mark) h) ∙ ap (λ t. cond t (c .price) (orToday l (todayOf ms (c .mark)))) test
+      ∙ sym (newer-price l c (todayOf ms (c .mark))) ∙ ap (λ x. orToday x (todayOf ms (c .mark))) (sym after) in
+      let other : (m : ℕ) → (m ≡ c .mark → ⊥) → latestOf cs m (suc k) ≡ latestOf cs m k = λ m d. of-other cs k m (λ z. d (sym z ∙ mark)) in
+      rw add-one
+      (record {
+        number = holds-set {g = numberAt cs (suc k)} (omega arith) number (λ m d. ap numberOf (other m d)) (s .number);
+        price = holds-set {g = priceAt ms cs (suc k)} (omega arith) price (λ m d. ap (λ x. orToday x (todayOf ms m)) (other m d)) (s .price);
+      })
 
--- the change of a mark needs the final price of that mark only
-pub change-with : (ms : List Mark) (cs : List Correction) (i : ℕ) {l : Latest} {r : ℤ} → l ≡ latestOf cs i (length cs) → r ≡ changeOf ms (λ m. orToday l (markAt ms m .today)) i → r ≡ changeOf ms (finalOf ms cs) i
-unfolding finalOf changeOf
-change-with ms cs i e p = rw (← e) p
+-- after all corrections the prices are the final ones
+pub standing-final : (ms : List Mark) (cs : List Correction) {n : ℕ} {numbers prices : List ℕ} → Standing ms cs n (length cs) numbers prices → Holds 0 (finalOf ms cs) n prices
+unfolding finalOf
+standing-final ms cs s = record { entry = s .price .entry }

@@ -13,8 +13,9 @@ pub mod ResentCount
 pub mod Accepted
 pub mod Plans
 pub mod Totals
+pub mod Shares
 pub mod Changes
+pub mod Grouping
 pub mod Sizes
-pub mod Kept
 pub mod Latests
 pub mod Pricing

@@ -2,12 +2,11 @@
 use mathlib.Core.Path.{_≡_, refl}
 use Prim.Native.Nat.{ℕ, _%_, _≤_, _∣_}
 use native.Mathlib.Omega.{arith}
-use Rattle.pricing.specs.Calls.{Answer, given, refused, said, valueOf}
+use Rattle.pricing.specs.Calls.{Answer, given, refused, valueOf}
 use Rattle.products.specs.Products.{find, monthsOf, Unlisted, priceLimit}
 use Rattle.products.specs.declared.table.Found.{Found}
 use Rattle.products.specs.declared.table.Found.the-variants.{At, Missing}
 use Rattle.products.specs.declared.table.Product.{Product}
-use Rattle.pricing.specs.declared.contract.Priced.{Priced}
 use Rattle.products.specs.declared.table.Code.{Code}
 use Rattle.pricing.proofs.Promises as pricing
 use Rattle.products.proofs.Finding.{tells-unlisted, tells-product}
@@ -17,7 +16,8 @@ use mathlib.Core.Bool.{true, not}
 use mathlib.Core.List.{List·Memᴰ}
 use Rattle.pricing.specs.Value.{valueCap}
 use Rattle.checks.specs.Table.{listed, listedIn, quoted, quotedIn, tickOf, tickIn}
-use Rattle.settlement.specs.Worths.{orZero, worthOf}
+use Rattle.pricing.specs.Calls.{orZero}
+use Rattle.settlement.specs.Worths.{worthOf}
 use Rattle.settlement.specs.Conditions.{Quoted}
 use Rattle.numbers.proofs.Truth.{Tells, not-both, tells-not, tells-divides}
 
@@ -29,12 +29,10 @@ pub worth-bound : (a : Code) (p : ℕ) → worthOf a p ≤ valueCap
 unfolding worthOf
 worth-bound a p = by-answer a p (valueOf a p) refl
 
--- from what a call of pricing answered
-pub by-value : (a : Code) (p : ℕ) (x : Priced) {n : ℕ} → said x ≡ valueOf a p → n ≡ orZero (said x) → (n ≡ worthOf a p) × (n ≤ valueCap)
+-- from what pricing answered
+pub by-worth : (a : Code) (p : ℕ) {n : ℕ} → n ≡ orZero (valueOf a p) → (n ≡ worthOf a p) × (n ≤ valueCap)
 unfolding worthOf
-by-value a p x {n} e h =
-    let q : n ≡ orZero (valueOf a p) = rw (← e) h in
-    (q, rw q (by-answer a p (valueOf a p) refl))
+by-worth a p e = (e, rw e (by-answer a p (valueOf a p) refl))
 
 -- what the tests of the product table tell
 pub tells-missing : (a : Code) → Tells (not (listed a)) (Unlisted a)

@@ -23,6 +23,9 @@ use Rattle.numbers.proofs.Signed.{size-sum, size-mul, back-small}
 pub product-small : (x y : ℤ) → natAbs x ≤ lotsLimit → natAbs y ≤ changeCap → natAbs (x *ℤ y) ≤ amountCap
 product-small x y h k = rw (size-mul x y) (mul-le-mul h k)
 
+pub small-as : {x y : ℤ} → x ≡ y → natAbs y ≤ amountCap → natAbs x ≤ amountCap
+small-as e h = rw e h
+
 -- a sum of n bounded numbers
 pub sum-small : (f : ℕ → ℤ) (n : ℕ) → ((i : ℕ) → i < n → natAbs (f i) ≤ amountCap) → natAbs (sum f n) ≤ n * amountCap
 sum-small f zero b = omega arith

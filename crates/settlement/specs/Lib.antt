@@ -4,3 +4,4 @@ pub mod Prices
 pub mod Settling
 pub mod Resend
 pub mod Steps
+pub mod Groups

@@ -11,8 +11,11 @@ use Rattle.settlement.specs.Worths.{worthOf}
 use Rattle.dayfile.specs.Records.{markAt, correctionAt}
 use Rattle.dayfile.specs.declared.records.Mark.{Mark}
 use Rattle.dayfile.specs.declared.records.Correction.{Correction}
-use Rattle.settlement.specs.declared.prices.Latest.{Latest}
-use Rattle.settlement.specs.declared.prices.Latest.the-variants.{Never, Price}
+
+-- a mark's highest-numbered correction so far, its number and its price
+pub data Latest : Type 0 where
+  Never : Latest
+  Price : ℕ → ℕ → Latest
 
 -- of two corrections the one with the higher number, the later one where they are equal
 abbrev pub newerOf : Latest → Correction → Latest

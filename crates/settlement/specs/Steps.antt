@@ -2,10 +2,12 @@
 use mathlib.Core.Path.{_≡_}
 use Prim.Native.Nat.{ℕ, _≤_, _<_}
 use mathlib.Core.List.{List}
-use lib.IntN.{ℤ, pos, natAbs}
+use lib.IntN.{ℤ, pos, natAbs, _+ℤ_}
+use mathlib.Core.Bool.{Bool, true, false}
 use lib.ListN.{length, getD, replicate}
 use Rattle.products.specs.declared.table.Currency.{Currency}
-use Rattle.numbers.specs.Folds.{front}
+use Rattle.products.specs.declared.table.Currency.the-variants.{Aud, Nzd}
+use Rattle.numbers.specs.Folds.{front, sum}
 use Rattle.numbers.specs.Integers.{entryOf}
 use Rattle.dayfile.specs.Limits.{fileLimits, lotsLimit}
 use Rattle.dayfile.specs.Records.{Lists, markAt, positionAt}
@@ -15,15 +17,13 @@ use Rattle.checks.specs.Checks.{verdictOf}
 use Rattle.checks.specs.Judging.{resentOf}
 use Rattle.dayfile.specs.Steps.{LaidOut}
 use Rattle.checks.specs.Steps.{Accepted}
-use Rattle.settlement.specs.Prices.{latestOf, changeOf}
-use Rattle.settlement.specs.Settling.{keepOf, said, Plan, answerBy, paidBy}
+use Rattle.settlement.specs.Prices.{changeOf}
+use Rattle.settlement.specs.Settling.{keepOf, amountOf, sumOfAmounts, said, Plan, answerBy, paidBy}
 use Rattle.dayfile.specs.declared.records.Mark.{Mark}
-use Rattle.dayfile.specs.declared.records.Correction.{Correction}
 use Rattle.dayfile.specs.declared.records.Position.{Position}
 use Rattle.dayfile.specs.declared.file.DayFile.{DayFile}
-use Rattle.settlement.specs.declared.prices.Latest.{Latest}
-use Rattle.settlement.specs.declared.prices.Latest.the-variants.{Never}
 use Rattle.checks.specs.declared.order.Verdict.the-variants.{Passed}
+use Rattle.settlement.specs.declared.amounts.Sums.{Sums}
 use Rattle.settlement.specs.declared.settling.Settlement.{Settlement}
 
 -- no change in value is larger
@@ -37,9 +37,9 @@ amountCap = 1_000_000_000_000_000
 abbrev pub totalCap : ℕ
 totalCap = 5_000_000_000_000_000_000
 
--- a list has the highest-numbered one for each mark of a file, among the first n corrections
-pub record EachLatest (cs : List Correction) (n : ℕ) (r : List Latest) : Type 0 where
-  pub entry : (m : ℕ) → m < fileLimits .marks → getD r m Never ≡ latestOf cs m n
+-- a mark's price today
+abbrev pub todayOf : List Mark → ℕ → ℕ
+todayOf ms m = markAt ms m .today
 
 -- an array's entries before any is filled in
 unfoldable pub blank : List ℤ
@@ -66,16 +66,48 @@ pub record Payable (ps : List Position) : Type 0 where
   pub mark : (i : ℕ) → i < length ps → positionAt ps i .mark < fileLimits .marks
   pub lots : (i : ℕ) → i < length ps → natAbs (positionAt ps i .lots) ≤ lotsLimit
 
+-- positions whose marks are in the file
+pub record Named (ms : List Mark) (ps : List Position) : Type 0 where
+  pub few : length ms ≤ fileLimits .marks
+  pub mark : (i : ℕ) → i < length ps → positionAt ps i .mark < length ms
+
 -- an array of changes in range
 pub record Bounded (a : List ℤ) : Type 0 where
   pub entries : (m : ℕ) → natAbs (getD a m (pos 0)) ≤ changeCap
 
--- an array's entry where the mark's currency is the wanted one, else 0
-abbrev pub keptAt : List Mark → Currency → List ℤ → ℕ → ℤ
-keptAt ms wanted a m = keepOf wanted (currencyOf (markAt ms m .code)) (entryOf a m)
+abbrev pub isNzd : Currency → Bool
+isNzd Aud = false
+isNzd Nzd = true
 
-abbrev pub keptOf : List Mark → Currency → List ℤ → List ℤ
-keptOf ms wanted a = front (keptAt ms wanted a) blank (fileLimits .marks)
+-- a mark is in New Zealand dollars
+abbrev pub nzdAt : List Mark → ℕ → Bool
+nzdAt ms m = isNzd (currencyOf (markAt ms m .code))
+
+-- the currency that the answer to `isNzd` stands for
+abbrev pub currencyBy : Bool → Currency
+currencyBy true = Nzd
+currencyBy false = Aud
+
+-- an amount more in one of two sums
+pub record Adds (b : Bool) (x : ℤ) (s r : Sums) : Type 0 where
+  pub aud : r .aud ≡ s .aud +ℤ keepOf Aud (currencyBy b) x
+  pub nzd : r .nzd ≡ s .nzd +ℤ keepOf Nzd (currencyBy b) x
+
+-- a position's amount, if its currency is the wanted one; an array says which marks are in New Zealand dollars
+unfoldable pub flaggedShare : List Position → List ℤ → List Bool → Currency → ℕ → ℤ
+flaggedShare ps a nzd wanted i = keepOf wanted (currencyBy (getD nzd (positionAt ps i .mark) false)) (amountOf ps (entryOf a) i)
+
+-- the amounts in the first places of a slice, and the sum of each currency's by that array
+pub record PaysFlagged (ps : List Position) (a : List ℤ) (flags : List Bool) (r : Sums) (before after : List ℤ) : Type 0 where
+  pub written : after ≡ front (amountOf ps (entryOf a)) before (length ps)
+  pub aud : r .aud ≡ sum (flaggedShare ps a flags Aud) (length ps)
+  pub nzd : r .nzd ≡ sum (flaggedShare ps a flags Nzd) (length ps)
+
+-- the amounts in the first places of a slice, and the sum of each currency's
+pub record Pays (ms : List Mark) (ps : List Position) (a : List ℤ) (r : Sums) (before after : List ℤ) : Type 0 where
+  pub written : after ≡ front (amountOf ps (entryOf a)) before (length ps)
+  pub aud : r .aud ≡ sumOfAmounts ms ps (entryOf a) Aud
+  pub nzd : r .nzd ≡ sumOfAmounts ms ps (entryOf a) Nzd
 
 -- an answer and a slice that are what a plan says, of the slice before
 pub record Settles (plan : Plan) (r : Settlement) (before after : List ℤ) : Type 0 where

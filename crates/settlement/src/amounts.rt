@@ -1,20 +1,20 @@
-// The amounts of the positions and the totals of the currencies, from the marks' changes in value.
+// The amounts of the positions and the sums of each currency's, from the marks' changes in value.
 use dayfile::DayFile;
 use dayfile::mark_at;
+use dayfile::mark_count;
 use dayfile::position_at;
 use dayfile::position_count;
 use products::Currency;
 use products::currency_of;
 ghost use mathlib.Core.Path.{_≡_};
-ghost use Prim.Native.Nat.{_<_, _≤_};
+ghost use mathlib.Core.Bool.{false};
+ghost use Prim.Native.Nat.{_≤_};
 ghost use lib.IntN.{natAbs, _+ℤ_, _*ℤ_};
 ghost use lib.ListN.{length};
-ghost use Rattle.numbers.specs.Folds.{front, sum};
-ghost use Rattle.dayfile.specs.Limits.{lotsLimit};
+ghost use Rattle.numbers.specs.Folds.{Holds};
+ghost use Rattle.dayfile.specs.Limits.{fileLimits, lotsLimit};
 ghost use Rattle.dayfile.specs.Records.{marksIn, positionsIn};
-ghost use Rattle.settlement.specs.Settling.{keepOf, amountOf, sumOfAmounts};
-ghost use Rattle.settlement.specs.Steps.{changeCap, amountCap, totalCap, Payable, Bounded, keptOf};
-ghost use Rattle.numbers.specs.Integers.{entryOf};
+ghost use Rattle.settlement.specs.Steps.{changeCap, amountCap, totalCap, Payable, Named, Bounded, isNzd, nzdAt, Adds, PaysFlagged, Pays};
 
 // Lots times a change in value.
 fn times(lots: i64, change: i64) -> i64
@@ -32,84 +32,87 @@ fn plus(sum: i64, amount: i64) -> i64
     sum + amount
 }
 
-// The amount of a position, from the changes of the marks.
-fn amount(positions: &[u8], a: &[i64; DayFile::MAX_MARKS], i: usize) -> i64
-    requires { ⌜ (Payable (positionsIn (now positions)) × Bounded (now a)) × (i < length (positionsIn (now positions))) ⌝ }
-    ensures { λ r. ⌜ r ≡ amountOf (positionsIn (now (positions .entry))) (entryOf (now (a .entry))) i ⌝ }
-{
-    let p = position_at(positions, i);
-    let m = p.mark;
-    times(p.lots, a[m])
+// The sums of the amounts in Australian cents and of those in New Zealand cents, which are never added to each other.
+pub struct Sums {
+    pub aud: i64,
+    pub nzd: i64,
 }
 
-// Writes the amounts.
-pub(crate) fn pay(positions: &[u8], a: &[i64; DayFile::MAX_MARKS], amounts: &mut [i64])
-    requires { ⌜ (Payable (positionsIn (now positions)) × Bounded (now a)) × (length (positionsIn (now positions)) ≤ length (now amounts)) ⌝ }
-    ensures { λ r. ⌜ now (amounts .exit) ≡ front (amountOf (positionsIn (now (positions .entry))) (entryOf (now (a .entry)))) (now (amounts .entry)) (length (positionsIn (now (positions .entry)))) ⌝ }
+// One amount more, in the sum of its own currency.
+fn add(s: Sums, nzd: bool, x: i64) -> Sums
+    requires { ⌜ (natAbs (s .aud) ≤ totalCap) × (natAbs (s .nzd) ≤ totalCap) × (natAbs x ≤ amountCap) ⌝ }
+    ensures { λ r. ⌜ Adds nzd x s r ⌝ }
 {
-    let count = position_count(positions);
-    let mut i = 0;
-    while i < count {
-        amounts[i] = amount(positions, a, i);
-        i += 1;
+    if nzd {
+        return Sums {
+            aud: s.aud,
+            nzd: plus(s.nzd, x),
+        };
+    }
+    Sums {
+        aud: plus(s.aud, x),
+        nzd: s.nzd,
     }
 }
 
-// x where a currency is the wanted one, else 0.
-fn keep(wanted: Currency, c: Currency, x: i64) -> i64
-    ensures { λ r. ⌜ r ≡ keepOf wanted c x ⌝ }
+fn is_nzd(c: Currency) -> bool
+    ensures { λ r. ⌜ r ≡ isNzd c ⌝ }
 {
-    match wanted {
-        Currency::Aud => match c {
-            Currency::Aud => x,
-            Currency::Nzd => 0,
-        },
-        Currency::Nzd => match c {
-            Currency::Aud => 0,
-            Currency::Nzd => x,
-        },
+    match c {
+        Currency::Aud => false,
+        Currency::Nzd => true,
     }
 }
 
-// The changes of a currency's marks, 0 for the others.
-fn kept(marks: &[u8], a: &[i64; DayFile::MAX_MARKS], wanted: Currency) -> [i64; DayFile::MAX_MARKS]
-    requires { ⌜ Bounded (now a) ⌝ }
-    ensures { λ r. ⌜ r ≡ keptOf (marksIn (now (marks .entry))) wanted (now (a .entry)) ⌝ }
+// Whether each mark is in New Zealand dollars.
+fn nzds(marks: &[u8]) -> [bool; DayFile::MAX_MARKS]
+    requires { ⌜ length (marksIn (now marks)) ≤ fileLimits .marks ⌝ }
+    ensures { λ r. ⌜ Holds false (nzdAt (marksIn (now (marks .entry)))) (length (marksIn (now (marks .entry)))) r ⌝ }
 {
-    let mut r = [0i64; DayFile::MAX_MARKS];
+    let n = mark_count(marks);
+    let mut r = [false; DayFile::MAX_MARKS];
     let mut m = 0;
-    while m < DayFile::MAX_MARKS {
-        r[m] = keep(wanted, currency_of(mark_at(marks, m).code), a[m]);
+    while m < n {
+        r[m] = is_nzd(currency_of(mark_at(marks, m).code));
         m += 1;
     }
     r
 }
 
-// The sum of lots times change over the positions.
-fn summed(positions: &[u8], a: &[i64; DayFile::MAX_MARKS]) -> i64
-    requires { ⌜ Payable (positionsIn (now positions)) × Bounded (now a) ⌝ }
-    ensures { λ r. ⌜ r ≡ sum (amountOf (positionsIn (now (positions .entry))) (entryOf (now (a .entry)))) (length (positionsIn (now (positions .entry)))) ⌝ }
+// Writes the amounts, and sums those of each currency.
+fn pay_flagged(
+    positions: &[u8],
+    a: &[i64; DayFile::MAX_MARKS],
+    nzd: &[bool; DayFile::MAX_MARKS],
+    amounts: &mut [i64],
+) -> Sums
+    requires { ⌜ (Payable (positionsIn (now positions)) × Bounded (now a)) × (length (positionsIn (now positions)) ≤ length (now amounts)) ⌝ }
+    ensures { λ r. ⌜ PaysFlagged (positionsIn (now (positions .entry))) (now (a .entry)) (now (nzd .entry)) r (now (amounts .entry)) (now (amounts .exit)) ⌝ }
 {
-    let n = position_count(positions);
-    let mut t: i64 = 0;
-    let mut k = 0;
-    while k < n {
-        t = plus(t, amount(positions, a, k));
-        k += 1;
+    let count = position_count(positions);
+    let mut s = Sums { aud: 0, nzd: 0 };
+    let mut i = 0;
+    while i < count {
+        let p = position_at(positions, i);
+        let m = p.mark;
+        let x = times(p.lots, a[m]);
+        amounts[i] = x;
+        s = add(s, nzd[m], x);
+        i += 1;
     }
-    t
+    s
 }
 
-// The sum of a currency's amounts.
-pub(crate) fn total(
+// Writes the amounts of a file's positions, and sums those of each currency.
+pub(crate) fn pay(
     marks: &[u8],
     positions: &[u8],
     a: &[i64; DayFile::MAX_MARKS],
-    wanted: Currency,
-) -> i64
-    requires { ⌜ Payable (positionsIn (now positions)) × Bounded (now a) ⌝ }
-    ensures { λ r. ⌜ r ≡ sumOfAmounts (marksIn (now (marks .entry))) (positionsIn (now (positions .entry))) (entryOf (now (a .entry))) wanted ⌝ }
+    amounts: &mut [i64],
+) -> Sums
+    requires { ⌜ ((Payable (positionsIn (now positions)) × Named (marksIn (now marks)) (positionsIn (now positions))) × Bounded (now a)) × (length (positionsIn (now positions)) ≤ length (now amounts)) ⌝ }
+    ensures { λ r. ⌜ Pays (marksIn (now (marks .entry))) (positionsIn (now (positions .entry))) (now (a .entry)) r (now (amounts .entry)) (now (amounts .exit)) ⌝ }
 {
-    let k = kept(marks, a, wanted);
-    summed(positions, &k)
+    let nzd = nzds(marks);
+    pay_flagged(positions, a, &nzd, amounts)
 }

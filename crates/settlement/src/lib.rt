@@ -1,8 +1,8 @@
 // The settlement of a day file: final prices, amounts and totals.
 mod amounts;
+mod groups;
 mod prices;
 mod settling;
-mod worths;
 
 pub use settling::AudCents;
 pub use settling::NzdCents;

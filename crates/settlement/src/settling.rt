@@ -1,12 +1,10 @@
 // The settlement of a day file.
 use crate::amounts::pay;
-use crate::amounts::total;
-use crate::prices::changes;
+use crate::groups::changes;
 use checks::Judged;
 use checks::judge;
 use dayfile::DayFile;
 use dayfile::position_count;
-use products::Currency;
 ghost use mathlib.Core.Path.{_≡_};
 ghost use Prim.Native.Nat.{_≤_};
 ghost use lib.ListN.{length};
@@ -47,14 +45,13 @@ fn settle_accepted(
     requires { ⌜ Passing (listsOf (now marks) (now corrections) (now positions)) resent × (length (positionsIn (now positions)) ≤ length (now amounts)) ⌝ }
     ensures { λ r. ⌜ Settles (accept (listsOf (now (marks .entry)) (now (corrections .entry)) (now (positions .entry)))) r (now (amounts .entry)) (now (amounts .exit)) ⌝ }
 {
-    let a = changes(marks, corrections);
-    pay(positions, &a, amounts);
-    let aud = AudCents(total(marks, positions, &a, Currency::Aud));
-    let nzd = NzdCents(total(marks, positions, &a, Currency::Nzd));
+    let mut a = [0i64; DayFile::MAX_MARKS];
+    changes(marks, corrections, &mut a);
+    let sums = pay(marks, positions, &a, amounts);
     Settlement::Settled {
         positions: position_count(positions),
-        aud,
-        nzd,
+        aud: AudCents(sums.aud),
+        nzd: NzdCents(sums.nzd),
         resent,
     }
 }

@@ -1,10 +1,11 @@
 use Rattle.dayfile.specs.Records.{marksIn, correctionsIn}
 use Rattle.settlement.specs.Prices.{finalOf}
+use Rattle.settlement.specs.Steps.{blank}
 use Rattle.settlement.proofs.Changes.{bounded-as}
-use mathlib.Core.Path.{_∙_}
+use mathlib.Core.Path.{refl, _∙_}
 use Rattle.products.specs.declared.table.Currency.the-variants.{Aud, Nzd}
 use Rattle.numbers.proofs.Signed.{back}
-use Rattle.settlement.proofs.Accepted.{payable}
+use Rattle.settlement.proofs.Accepted.{payable, named}
 use Rattle.settlement.proofs.Plans.{settled-by}
 use Rattle.settlement.proofs.Totals.{sum-is, paid-is}
 use borrow.Author.Needs.{needs}
@@ -12,41 +13,25 @@ use Rattle.settlement.proofs.settling.settle_accepted.Statement.{statem
 use Rattle.settlement.proofs.settling.settle_accepted.Tie as tie
 
 changes-requires : tie.Need-changes-requires
-changes-requires c κs =
-    c .before .before .before .pre .0 .accepted .small .marks
+unfolding blank
+changes-requires c κs = (c .before .before .before .before .pre .0 .accepted .small .marks, refl)
 
 pay-requires : tie.Need-pay-requires
 pay-requires c κs =
-    let s = c .before .before .before .before .before .before in
+    let s = c .before .before .before .before .before .before .before in
     let bound = bounded-as (marksIn (s .args .marks .now)) (finalOf (marksIn (s .args .marks .now)) (correctionsIn (s .args .corrections .now))) (c .before .before .changes .ensures) in
-    ((payable _ (s .pre .0 .accepted), bound), s .pre .1)
-
-total-requires : tie.Need-total-requires
-total-requires c κs =
-    let s = c .before .before .before .before .before .before .before .before .before in
-    let bound = bounded-as (marksIn (s .args .marks .now)) (finalOf (marksIn (s .args .marks .now)) (correctionsIn (s .args .corrections .now))) (c .before .before .before .before .before .changes .ensures) in
-    (payable _ (s .pre .0 .accepted), bound)
-
-total-requires-2 : tie.Need-total-requires-2
-total-requires-2 c κs =
-    let s = c .before .before .before .before .before .before .before .before .before .before .before in
-    let bound = bounded-as (marksIn (s .args .marks .now)) (finalOf (marksIn (s .args .marks .now)) (correctionsIn (s .args .corrections .now))) (c .before .before .before .before .before .before .before .changes .ensures) in
-    (payable _ (s .pre .0 .accepted), bound)
-
-same-length : tie.Need-same-length
-same-length c =
-    search needs
+    (((payable _ (s .pre .0 .accepted), named _ (s .pre .0 .accepted)), bound), s .pre .1)
 
 returns : tie.Need-returns
 returns c =
-    let passing = c .before .before .before .before .before .before .before .before .before .before .before .before .before .pre .0 in
+    let passing = c .before .before .before .before .before .before .before .before .before .before .before .before .pre .0 in
     let acc = passing .accepted in
-    let q = c .before .before .before .before .before .before .before .before .before .changes .ensures in
-    let x = c .before .before .before in
-    let y = c .before in
+    let q = c .before .before .before .before .before .before .before .changes .ensures in
+    let p = c .before .before .before .before .pay in
+    let e = p .ensures in
     record {
-      answer = settled-by (c .position-count .ensures) (back (x .total .result) (x .total .ok) ∙ x .total .ensures ∙ rw q (sum-is _ acc Aud)) (back (y .total2 .result) (y .total2 .ok) ∙ y .total2 .ensures ∙ rw q (sum-is _ acc Nzd)) (passing .counted);
-      written = c .before .before .before .before .before .before .pay .ensures ∙ rw q (paid-is _ acc _);
+      answer = settled-by (c .before .before .position-count .ensures) (back (p .result .aud) (c .before .struct-told .given .0 .1) ∙ e .aud ∙ rw q (sum-is _ acc Aud)) (back (p .result .nzd) (c .struct-told2 .given .1 .0 .1) ∙ e .nzd ∙ rw q (sum-is _ acc Nzd)) (passing .counted);
+      written = e .written ∙ rw q (paid-is _ acc _);
     }
 
 pub settle-accepted-spec : {M : Type 1} → statement M
@@ -55,8 +40,6 @@ settle-accepted-spec =
     (tie.spec
     changes-requires
     pay-requires
-    total-requires
-    total-requires-2
     (λ c κs. search needs)
-    same-length
+    (λ c. search needs)
     returns)
