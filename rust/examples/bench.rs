@@ -7,7 +7,7 @@ use citronreef::products::{self, Product, PRICE_LIMIT, PRODUCTS};
 use citronreef::random::Random;
 use citronreef::records::{Day, MAX_CORRECTIONS, MAX_MARKS, MAX_POSITIONS};
 use citronreef::sheet::sheet;
-use citronreef::{hashed, plain, settle, value, write_sheet, Refusal, Settled, SHEET_SIZE};
+use citronreef::{hashed, plain, settle, tick_value, value, write_sheet, Refusal, Settled, SHEET_SIZE};
 use std::io::Write;
 use std::path::Path;
 use std::process::{Command, Stdio};
@@ -82,12 +82,12 @@ fn with_products(mut day: Day, product: impl Fn(u32) -> u32) -> Day {
 
 /// All corrections start at one root of the library's tree.
 fn with_one_root(day: Day) -> Day {
-    with_products(day, |index| index * 2_047 % 1_048_576)
+    with_products(day, |index| index * 16_383 % 8_388_608)
 }
 
-/// All start at one root and agree in the first eleven bits of their walks too, which leaves nine bits to tell 512 numbers apart.
+/// All start at one root and agree in the first fourteen bits of their walks too, which leaves nine bits to tell 512 numbers apart.
 fn with_long_walks(day: Day) -> Day {
-    with_products(day, |index| index * 2_048)
+    with_products(day, |index| index * 16_384)
 }
 
 fn with_equal_corrections(mut day: Day) -> Day {
@@ -135,9 +135,8 @@ fn print_settle() {
     println!("growth from N = 2048 to 4096: proved {proved:.2}, plain {plain:.2}, hashed {hashed:.2} times\n");
 }
 
-/// The times of both builds for one value, over all listed prices of a product, in nanoseconds: proved, plain.
-fn value_times(code: [u8; 2], prices: &[u32]) -> [f64; 2] {
-    let builds: [Value; 2] = [value, products::value];
+/// The times of a call's two builds, over all listed prices of a product, in nanoseconds: proved, plain.
+fn call_times(builds: [Value; 2], code: [u8; 2], prices: &[u32]) -> [f64; 2] {
     let pass = |k: usize| prices.iter().filter_map(|&price| builds[k](black_box(code), black_box(price)).ok()).sum::<u64>();
     medians(|k| {
         black_box(pass(k));
@@ -146,13 +145,15 @@ fn value_times(code: [u8; 2], prices: &[u32]) -> [f64; 2] {
 }
 
 fn print_values() {
-    println!("value: nanoseconds for one contract, over all listed prices of a product");
-    println!("{:>21} {:>9} {:>9} {:>9}", "code", "proved", "plain", "ratio");
+    println!("nanoseconds for one contract, over all listed prices of a product: value, and tick value");
+    println!("{:>21} {:>9} {:>9} {:>9} {:>9} {:>9} {:>9}", "code", "proved", "plain", "ratio", "proved", "plain", "ratio");
     for product in &PRODUCTS {
         let prices: Vec<u32> = (0..=PRICE_LIMIT).step_by(product.tick as usize).collect();
-        let [proved, plain] = value_times(product.code, &prices);
+        let [proved, plain] = call_times([value, products::value], product.code, &prices);
+        let [tick, plain_tick] = call_times([tick_value, products::tick_value], product.code, &prices);
         let code = String::from_utf8_lossy(&product.code);
-        println!("{code:>21} {proved:>9.1} {plain:>9.1} {:>9.2}", proved / plain);
+        let (ratio, tick_ratio) = (proved / plain, tick / plain_tick);
+        println!("{code:>21} {proved:>9.1} {plain:>9.1} {ratio:>9.2} {tick:>9.1} {plain_tick:>9.1} {tick_ratio:>9.2}");
     }
 }
 
