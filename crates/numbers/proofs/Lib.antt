@@ -6,6 +6,7 @@ pub mod Held
 pub mod Trees
 pub mod Counting
 pub mod Order
+pub mod Checks
 pub mod Tables
 pub mod Sections
 pub mod Bytes

@@ -9,9 +9,11 @@ use native.Mathlib.Omega.{arith}
 use borrow.Author.Tests.{ltb-true, ltb-false}
 use lib.Dec.{ltb}
 use Rattle.numbers.specs.Folds.{first, orElse}
-use Rattle.numbers.specs.Order.{Decides, Clear}
+use Rattle.numbers.specs.Order.{Decides, Clear, pick, andThen, orFound, decision}
 use Rattle.numbers.specs.declared.Found.{Found}
 use Rattle.numbers.specs.declared.Found.the-variants.{At, Nothing}
+use Rattle.numbers.specs.declared.deciding.Decision.{Decision}
+use Rattle.numbers.specs.declared.deciding.Decision.the-variants.{Met, Unmet}
 use Rattle.numbers.proofs.Truth.{Tells}
 
 -- ---- what a search finds
@@ -78,24 +80,24 @@ module _ {P : ℕ → Type 0} {o : Found} where
 
 -- ---- the decision
 
--- which condition was met, with its number and the record; or none
-pub data Decision : Type 0 where
-  met : ℕ → ℕ → Decision
-  clear : Decision
-
-abbrev pub pick : Found → ℕ → Decision → Decision
-pick (At i) k d = met k i
-pick Nothing k d = d
-
 module _ {R : Type 0} (number : R → ℕ) (finding : R → Found) where
-  -- the first condition that finds a record decides
-  abbrev pub decision : List R → Decision
-  decision [] = clear
-  decision (c ∷ cs) = pick (finding c) (number c) (decision cs)
+  -- where no condition finds a record, none decides, and the other way round
+  pub all-clear : (cs : List R) → ((c : R) → List·Memᴰ c cs → finding c ≡ Nothing) → decision number finding cs ≡ Unmet
+  all-clear [] h = refl
+  all-clear (c ∷ cs) h = rw (h c (List·Memᴰ·head refl)) (all-clear cs (λ b m. h b (List·Memᴰ·tail m)))
+
+  by-clear : (c : R) (cs : List R) (o : Found) → finding c ≡ o → pick o (number c) (decision number finding cs) ≡ Unmet → (finding c ≡ Nothing) × (decision number finding cs ≡ Unmet)
+  by-clear c cs (At i) e p = absurd (let z : _≡_ {A = ℕ} 0 1 = cc in omega arith)
+  by-clear c cs Nothing e p = (e, p)
+
+  pub none-of : (cs : List R) → decision number finding cs ≡ Unmet → (c : R) → List·Memᴰ c cs → finding c ≡ Nothing
+  none-of [] p c m = absurd (List·Memᴰ·not-nil m)
+  none-of (b ∷ cs) p c (List·Memᴰ·head q) = ap finding q ∙ by-clear b cs (finding b) refl p .0
+  none-of (b ∷ cs) p c (List·Memᴰ·tail m) = none-of cs (by-clear b cs (finding b) refl p .1) c m
 
   module _ {Holds : R → ℕ → Type 0} (finds : (c : R) → Finds (Holds c) (finding c)) where
-    by-found : (c : R) (cs : List R) (o : Found) → finding c ≡ o → {k i : ℕ} → pick o (number c) (decision cs) ≡ met k i
-        → (decision cs ≡ met k i → Decides number Holds cs k i) → Decides number Holds (c ∷ cs) k i
+    by-found : (c : R) (cs : List R) (o : Found) → finding c ≡ o → {k i : ℕ} → pick o (number c) (decision number finding cs) ≡ Met k i
+        → (decision number finding cs ≡ Met k i → Decides number Holds cs k i) → Decides number Holds (c ∷ cs) k i
     by-found c cs (At j) e {k} {i} p rest =
         let same : j ≡ i = cc in
         let h = holds-there (finds c) e in
@@ -126,38 +128,25 @@ module _ {R : Type 0} (number : R → ℕ) (finding : R → Found) where
         by-member b (List·Memᴰ·head q) h = rw q (none-holds (finds c) e)
         by-member b (List·Memᴰ·tail m) h = h b m
 
-    decided : (cs : List R) {k i : ℕ} → decision cs ≡ met k i → Decides number Holds cs k i
+    decided : (cs : List R) {k i : ℕ} → decision number finding cs ≡ Met k i → Decides number Holds cs k i
     decided [] p = absurd (let z : _≡_ {A = ℕ} 0 1 = cc in omega arith)
     decided (c ∷ cs) p = by-found c cs (finding c) refl p (decided cs)
 
     behind : (es : List R) (c : R) (cs : List R) {i : ℕ} → ((b : R) → List·Memᴰ b es → finding b ≡ Nothing) → finding c ≡ At i
-        → decision (es ++ (c ∷ cs)) ≡ met (number c) i
+        → decision number finding (es ++ (c ∷ cs)) ≡ Met (number c) i
     behind [] c cs none e = rw e
     behind (b ∷ es) c cs none e = rw (none b (List·Memᴰ·head refl)) (behind es c cs (λ x m. none x (List·Memᴰ·tail m)) e)
 
     -- condition k decides at i exactly where the decision says so
-    pub met-exactly : (cs : List R) {k i : ℕ} → (decision cs ≡ met k i) ↔ Decides number Holds cs k i
+    pub met-exactly : (cs : List R) {k i : ℕ} → (decision number finding cs ≡ Met k i) ↔ Decides number Holds cs k i
     met-exactly cs {k} {i} = (
       decided cs,
       λ d. rw (d .ordered, ← d .numbered)
           (behind (d .earlier) (d .condition) (d .later) (λ b m. none-found (finds b) (d .none-earlier b m)) (found-there (finds (d .condition)) i (d .here) (d .first))),
     )
 
-    all-clear : (cs : List R) → ((c : R) → List·Memᴰ c cs → finding c ≡ Nothing) → decision cs ≡ clear
-    all-clear [] h = refl
-    all-clear (c ∷ cs) h = rw (h c (List·Memᴰ·head refl)) (all-clear cs (λ b m. h b (List·Memᴰ·tail m)))
-
-    by-clear : (c : R) (cs : List R) (o : Found) → finding c ≡ o → pick o (number c) (decision cs) ≡ clear → (finding c ≡ Nothing) × (decision cs ≡ clear)
-    by-clear c cs (At i) e p = absurd (let z : _≡_ {A = ℕ} 0 1 = cc in omega arith)
-    by-clear c cs Nothing e p = (e, p)
-
-    none-of : (cs : List R) → decision cs ≡ clear → (c : R) → List·Memᴰ c cs → finding c ≡ Nothing
-    none-of [] p c m = absurd (List·Memᴰ·not-nil m)
-    none-of (b ∷ cs) p c (List·Memᴰ·head q) = ap finding q ∙ by-clear b cs (finding b) refl p .0
-    none-of (b ∷ cs) p c (List·Memᴰ·tail m) = none-of cs (by-clear b cs (finding b) refl p .1) c m
-
     -- and none holds exactly where the decision is clear
-    pub clear-exactly : (cs : List R) → (decision cs ≡ clear) ↔ Clear Holds cs
+    pub clear-exactly : (cs : List R) → (decision number finding cs ≡ Unmet) ↔ Clear Holds cs
     clear-exactly cs = (
       λ p. record { none = λ b m. none-holds (finds b) (none-of cs p b m) },
       λ h. all-clear cs (λ b m. none-found (finds b) (h .none b m)),

@@ -34,7 +34,11 @@ unfoldable pub some : (ℕ → Bool) → ℕ → Bool
 some t zero = false
 some t (suc n) = some t n || t n
 
--- how many do
+-- index i makes a pair with an earlier one
+abbrev pub repeating : (ℕ → ℕ → Bool) → ℕ → Bool
+repeating pair i = some (pair i) i
+
+-- how many indices below n pass a test
 abbrev pub count : (ℕ → Bool) → ℕ → ℕ
 count t zero = 0
 count t (suc n) = count t n + cond (t n) 1 0

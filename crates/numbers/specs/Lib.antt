@@ -7,3 +7,4 @@ pub mod Bytes
 pub mod Folds
 pub mod Trees
 pub mod Order
+pub mod Checks

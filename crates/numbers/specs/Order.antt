@@ -1,7 +1,11 @@
 -- Numbered conditions in an order, each about records by their index: which of them decides.
 use mathlib.Core.Path.{_≡_}
-use mathlib.Core.List.{List, _∷_, _++_, List·Memᴰ}
+use mathlib.Core.List.{List, [], _∷_, _++_, List·Memᴰ}
 use Prim.Native.Nat.{ℕ, _<_}
+use Rattle.numbers.specs.declared.Found.{Found}
+use Rattle.numbers.specs.declared.Found.the-variants.{At, Nothing}
+use Rattle.numbers.specs.declared.deciding.Decision.{Decision}
+use Rattle.numbers.specs.declared.deciding.Decision.the-variants.{Met, Unmet}
 
 module _ {R : Type 0} (number : R → ℕ) (Holds : R → ℕ → Type 0) where
   -- Condition k decides at record i: it holds there and at no record before it, and no condition that stands before it in the order holds at
@@ -19,3 +23,25 @@ module _ {R : Type 0} (number : R → ℕ) (Holds : R → ℕ → Type 0) where
 -- none holds at any record
 pub record Clear {R : Type 0} (Holds : R → ℕ → Type 0) (order : List R) : Type 0 where
   pub none : (b : R) → List·Memᴰ b order → (j : ℕ) → ¬ (Holds b j)
+
+-- ---- the decision, by what each condition finds
+
+-- what a condition with the number k found, or else what later ones decide
+abbrev pub pick : Found → ℕ → Decision → Decision
+pick (At i) k d = Met k i
+pick Nothing k d = d
+
+-- what is decided first
+abbrev pub andThen : Decision → Decision → Decision
+andThen (Met k i) d = Met k i
+andThen Unmet d = d
+
+-- what is decided so far, or else what a condition with the number k found
+abbrev pub orFound : Decision → ℕ → Found → Decision
+orFound (Met n i) k o = Met n i
+orFound Unmet k o = pick o k Unmet
+
+-- the first condition of the order that finds a record decides
+abbrev pub decision : {R : Type 0} → (R → ℕ) → (R → Found) → List R → Decision
+decision number finding [] = Unmet
+decision number finding (c ∷ cs) = pick (finding c) (number c) (decision number finding cs)

@@ -1,6 +1,9 @@
-// What carries no word of the trade: numbers in bytes, and the answer of a search. The laws are in proofs/.
+// What carries no word of the trade: numbers in bytes, the answer of a search, and of a search by several conditions in their order.
+// The laws are in proofs/.
+mod deciding;
 mod words;
 
+pub use deciding::Decision;
 pub use words::as_signed;
 pub use words::joined;
 

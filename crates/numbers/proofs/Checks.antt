@@ -1,0 +1,93 @@
+-- The laws of checks in their order: what they decide is what their conditions in words say, and how parts of an order go together.
+use mathlib.Core.Path.{_≡_, refl, sym, ap, _∙_}
+use mathlib.Core.Bool.{Bool, false}
+use mathlib.Core.List.{List, [], _∷_, _++_, map, List·Memᴰ}
+use mathlib.Core.Logic.{_⊎_, inl, inr, ⊎-elim, _↔_}
+use Prim.Native.Nat.{ℕ, _<_}
+use native.Mathlib.Omega.{arith}
+use Rattle.numbers.specs.Order.{pick, andThen, orFound, decision}
+use Rattle.numbers.specs.Checks.{Checks, _before_, numberOf, HoldsAt, Refuses, Passes, findingOf, decisionOf}
+use Rattle.numbers.specs.declared.Found.{Found}
+use Rattle.numbers.specs.declared.Found.the-variants.{At, Nothing}
+use Rattle.numbers.specs.declared.deciding.Decision.{Decision}
+use Rattle.numbers.specs.declared.deciding.Decision.the-variants.{Met, Unmet}
+use Rattle.numbers.proofs.Truth.{Tells}
+use Rattle.numbers.proofs.Searches.{first-clear}
+use Rattle.numbers.proofs.Order.{Finds, first-finds, met-exactly, clear-exactly, all-clear, none-of}
+
+-- ---- in words
+
+-- each test is true exactly where its words say that something is wrong
+abbrev pub Agree : Checks → Type 0
+Agree cs = (c : cs .Name) (i : ℕ) → Tells (cs .check c .test i) (cs .check c .Wrong i)
+
+module _ (cs : Checks) (agree : Agree cs) where
+  finds : (c : cs .Name) → Finds (HoldsAt cs c) (findingOf cs c)
+  finds c = first-finds (cs .check c .test) (agree c) (cs .size c)
+
+  -- check k decides at i exactly where its condition is the first that holds, there first
+  pub refuses-exactly : {k i : ℕ} → (decisionOf cs ≡ Met k i) ↔ Refuses cs k i
+  unfolding decisionOf
+  refuses-exactly = met-exactly (numberOf cs) (findingOf cs) finds (cs .order)
+
+  -- and none decides exactly where no condition holds
+  pub passes-exactly : (decisionOf cs ≡ Unmet) ↔ Passes cs
+  unfolding decisionOf
+  passes-exactly = clear-exactly (numberOf cs) (findingOf cs) finds (cs .order)
+
+pub agree-before : (p q : Checks) → Agree p → Agree q → Agree (p before q)
+agree-before p q a b (inl c) = a c
+agree-before p q a b (inr c) = b c
+
+-- ---- checks that pass
+
+module _ (cs : Checks) where
+  pub clear : decisionOf cs ≡ Unmet → (c : cs .Name) → List·Memᴰ c (cs .order) → findingOf cs c ≡ Nothing
+  unfolding decisionOf
+  clear p c m = none-of (numberOf cs) (findingOf cs) (cs .order) p c m
+
+  pub unmet : ((c : cs .Name) → List·Memᴰ c (cs .order) → findingOf cs c ≡ Nothing) → decisionOf cs ≡ Unmet
+  unfolding decisionOf
+  unmet h = all-clear (numberOf cs) (findingOf cs) (cs .order) h
+
+  -- no record fails a test
+  pub passed-at : decisionOf cs ≡ Unmet → {c : cs .Name} → List·Memᴰ c (cs .order) → {i : ℕ} → i < cs .size c → cs .check c .test i ≡ false
+  passed-at p {c} m {i} h = first-clear (cs .check c .test) (cs .size c) i (clear p c m) h
+
+-- ---- one part of an order after the other
+
+pick-then : (o : Found) (k : ℕ) (d e : Decision) → pick o k (andThen d e) ≡ andThen (pick o k d) e
+pick-then (At i) k d e = refl
+pick-then Nothing k d e = refl
+
+pub both-unmet : (d e : Decision) → andThen d e ≡ Unmet → (d ≡ Unmet) × (e ≡ Unmet)
+both-unmet Unmet e p = (refl, p)
+both-unmet (Met k i) e p = absurd (let z : _≡_ {A = ℕ} 0 1 = cc in omega arith)
+
+module _ {R : Type 0} (number : R → ℕ) (finding : R → Found) where
+  decision-append : (xs ys : List R) → decision number finding (xs ++ ys) ≡ andThen (decision number finding xs) (decision number finding ys)
+  decision-append [] ys = refl
+  decision-append (x ∷ xs) ys =
+      ap (pick (finding x) (number x)) (decision-append xs ys) ∙ pick-then (finding x) (number x) (decision number finding xs) (decision number finding ys)
+
+  -- the same by one check after the other
+  pub decision-steps : (d : Decision) (x : R) (xs : List R) → andThen d (decision number finding (x ∷ xs)) ≡ andThen (orFound d (number x) (finding x)) (decision number finding xs)
+  decision-steps (Met k i) x xs = refl
+  decision-steps Unmet x xs = by-found (finding x)
+    where
+      by-found : (o : Found) → pick o (number x) (decision number finding xs) ≡ andThen (pick o (number x) Unmet) (decision number finding xs)
+      by-found (At i) = refl
+      by-found Nothing = refl
+
+  decision-map : {S : Type 0} (f : S → R) (xs : List S) → decision number finding (map f xs) ≡ decision (λ x. number (f x)) (λ x. finding (f x)) xs
+  decision-map f [] = refl
+  decision-map f (x ∷ xs) = ap (pick (finding (f x)) (number (f x))) (decision-map f xs)
+
+pub decision-before : (p q : Checks) → decisionOf (p before q) ≡ andThen (decisionOf p) (decisionOf q)
+unfolding decisionOf
+decision-before p q =
+    let number = numberOf (p before q) in
+    let finding = findingOf (p before q) in
+    decision-append number finding (map inl (p .order)) (map inr (q .order))
+    ∙ ap (λ d. andThen d (decision number finding (map inr (q .order)))) (decision-map number finding inl (p .order))
+    ∙ ap (andThen (decision (numberOf p) (findingOf p) (p .order))) (decision-map number finding inr (q .order))

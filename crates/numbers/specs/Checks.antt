@@ -1,0 +1,57 @@
+-- Checks over records, in their order. Each has a number, says in words what is wrong with the record with index i, and has a test for it.
+use mathlib.Core.Bool.{Bool}
+use mathlib.Core.List.{List, _++_, map}
+use mathlib.Core.Logic.{_⊎_, inl, inr, ⊎-elim}
+use Prim.Native.Nat.{ℕ, _<_}
+use Rattle.numbers.specs.Folds.{first}
+use Rattle.numbers.specs.Order.{Decides, Clear, decision}
+use Rattle.numbers.specs.declared.Found.{Found}
+use Rattle.numbers.specs.declared.deciding.Decision.{Decision}
+
+pub record Check : Type 1 where
+  pub number : ℕ
+  pub Wrong : ℕ → Type 0
+  pub test : ℕ → Bool
+
+-- checks by their names, how many records each looks at, and the order in which they run
+pub record Checks : Type 1 where
+  pub Name : Type 0
+  pub check : Name → Check
+  pub size : Name → ℕ
+  pub order : List Name
+
+-- first those of p, then those of q
+infixr 5 _before_
+abbrev pub _before_ : Checks → Checks → Checks
+p before q =
+    record {
+      Name = p .Name ⊎ q .Name;
+      check = ⊎-elim (p .check) (q .check);
+      size = ⊎-elim (p .size) (q .size);
+      order = map inl (p .order) ++ map inr (q .order);
+    }
+
+module _ (cs : Checks) where
+  abbrev pub numberOf : cs .Name → ℕ
+  numberOf c = cs .check c .number
+
+  -- the condition of a check holds at the record with index i
+  abbrev pub HoldsAt : cs .Name → ℕ → Type 0
+  HoldsAt c i = (i < cs .size c) × cs .check c .Wrong i
+
+  -- Check k refuses at record i: its condition holds there and at no record before it, and no condition of a check that stands before it in
+  -- the order holds at any record.
+  abbrev pub Refuses : ℕ → ℕ → Type 0
+  Refuses k i = Decides numberOf HoldsAt (cs .order) k i
+
+  -- No condition of any check holds at any record.
+  abbrev pub Passes : Type 0
+  Passes = Clear HoldsAt (cs .order)
+
+  -- the first record that fails a check
+  abbrev pub findingOf : cs .Name → Found
+  findingOf c = first (cs .check c .test) (cs .size c)
+
+  -- the first check that finds a record decides
+  unfoldable pub decisionOf : Decision
+  decisionOf = decision numberOf findingOf (cs .order)
