@@ -1,3 +1,4 @@
+pub mod Refusals
 pub mod Opening
 pub mod Parts
 pub mod Made

@@ -9,7 +9,8 @@ use Rattle.numbers.proofs.Bytes.{append-bytes, u32-bytes, from-bytes}
 use Rattle.numbers.proofs.Sections.{length-part, part-at, part-end}
 use Rattle.dayfile.specs.Records.{markSize, correctionSize, positionSize}
 use Rattle.dayfile.specs.Limits.{fileLimits}
-use Rattle.dayfile.specs.Layout.{headerSize, countsOf, correctionsStart, positionsStart, lengthOf, openedOf, markBytes, correctionBytes, positionBytes}
+use Rattle.dayfile.specs.Layout.{headerSize, countsOf, correctionsStart, positionsStart, lengthOf, markBytes, correctionBytes, positionBytes}
+use Rattle.dayfile.specs.Opening.{openedOf}
 use Rattle.dayfile.specs.Steps.{Limited}
 use Rattle.dayfile.specs.Making.{countsIn, entryBytes, headerOf, madeOf}
 use Rattle.dayfile.specs.declared.file.DayFile.{DayFile}

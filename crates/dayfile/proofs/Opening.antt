@@ -1,6 +1,6 @@
 -- A file that passes checks 1 to 3.
-use mathlib.Core.Path.{_≡_, refl}
-use mathlib.Core.Bool.{Bool, true, false, cond, _&&_}
+use mathlib.Core.Path.{_≡_, refl, sym, _∙_}
+use mathlib.Core.Bool.{Bool, true, false, cond, not, _&&_}
 use mathlib.Core.List.{List}
 use mathlib.Core.Logic.{_⊎_, inl, inr}
 use Prim.Native.Nat.{ℕ, _≤_, _<_}
@@ -9,12 +9,36 @@ use lib.Dec.{leb, ltb, eqb}
 use lib.ListN.{length}
 use borrow.Author.Tests.{eqb-true, eq-eqb, ltb-false, le-ltb, leb-true, le-leb}
 use Rattle.numbers.specs.Bytes.{u32At}
+use Rattle.numbers.specs.Folds.{first}
+use Rattle.numbers.specs.Order.{pick}
+use Rattle.numbers.specs.Checks.{decisionOf}
+use Rattle.numbers.specs.declared.Found.the-variants.{At, Nothing}
+use Rattle.numbers.specs.declared.deciding.Decision.the-variants.{Met, Unmet}
 use Rattle.dayfile.specs.Limits.{Limits, fileLimits}
-use Rattle.dayfile.specs.Layout.{countsOf, headerSize, correctionsStart, positionsStart, lengthOf, withinLimits, asLaidOut, openedOf}
+use Rattle.dayfile.specs.Layout.{countsOf, headerSize, correctionsStart, positionsStart, lengthOf}
+use Rattle.dayfile.specs.Opening.{headerChecks, withinLimits, asLaidOut, openedBy, openedOf}
 use Rattle.dayfile.specs.Steps.{LaidOut}
 use Rattle.dayfile.specs.declared.file.DayFile.{DayFile}
 use Rattle.dayfile.specs.declared.file.Opened.the-variants.{File, Refused}
 use Rattle.numbers.proofs.Truth.{and-left, and-right}
+
+-- ---- the tests, one after the other
+
+module _ (l : Limits) (f : List ℕ) where
+  by-tests-in-order : (short inside laid : Bool)
+      → openedBy f (pick (cond short (At 0) Nothing) 1 (pick (cond (not inside) (At 0) Nothing) 2 (pick (cond (not laid) (At 0) Nothing) 3 Unmet)))
+      ≡ cond short (Refused 1) (cond inside (cond laid (File (countsOf f)) (Refused 3)) (Refused 2))
+  by-tests-in-order true inside laid = refl
+  by-tests-in-order false false laid = refl
+  by-tests-in-order false true false = refl
+  by-tests-in-order false true true = refl
+
+  pub opened-by-tests : openedOf l f
+      ≡ cond (ltb (length f) headerSize) (Refused 1) (cond (withinLimits l (countsOf f)) (cond (asLaidOut f (countsOf f)) (File (countsOf f)) (Refused 3)) (Refused 2))
+  unfolding openedOf decisionOf first
+  opened-by-tests = by-tests-in-order (ltb (length f) headerSize) (withinLimits l (countsOf f)) (asLaidOut f (countsOf f))
+
+-- ---- a file that passes
 
 pub record Laid (l : Limits) (f : List ℕ) : Type 0 where
   pub header : headerSize ≤ length f
@@ -53,15 +77,14 @@ module _ (l : Limits) (f : List ℕ) where
       }
 
   pub opens : {d : DayFile} → openedOf l f ≡ File d → Laid l f × (countsOf f ≡ d)
-  unfolding openedOf
   opens p =
-      let (a, b, c, e) = by-tests (ltb (length f) headerSize) (withinLimits l (countsOf f)) (asLaidOut f (countsOf f)) p in
+      let (a, b, c, e) = by-tests (ltb (length f) headerSize) (withinLimits l (countsOf f)) (asLaidOut f (countsOf f)) (sym (opened-by-tests l f) ∙ p) in
       (laid-of a b c, e)
 
   pub laid-opens : Laid l f → openedOf l f ≡ File (countsOf f)
-  unfolding openedOf countsOf
+  unfolding countsOf
   laid-opens h =
-      simp (le-ltb _ _ (h .header), le-leb _ _ (h .marks-fit), le-leb _ _ (h .corrections-fit), le-leb _ _ (h .positions-fit), eq-eqb _ _ (h .marks-at), eq-eqb _ _ (h .corrections-at), eq-eqb _ _ (h .positions-at), eq-eqb _ _ (h .ends-at))
+      opened-by-tests l f ∙ simp (le-ltb _ _ (h .header), le-leb _ _ (h .marks-fit), le-leb _ _ (h .corrections-fit), le-leb _ _ (h .positions-fit), eq-eqb _ _ (h .marks-at), eq-eqb _ _ (h .corrections-at), eq-eqb _ _ (h .positions-at), eq-eqb _ _ (h .ends-at))
 
 -- a file that passes at the day file's own limits has counts within them, and the length that they give
 pub laid-out : (f : List ℕ) {d : DayFile} → openedOf fileLimits f ≡ File d → LaidOut f d
@@ -72,7 +95,7 @@ laid-out f p =
 
 -- a file longer than the limits allow is refused with 2 or 3
 pub too-long : (f : List ℕ) → 58392 < length f → (openedOf fileLimits f ≡ Refused 2) ⊎ (openedOf fileLimits f ≡ Refused 3)
-unfolding openedOf countsOf
+unfolding countsOf
 too-long f h = go (withinLimits fileLimits (countsOf f)) refl (asLaidOut f (countsOf f)) refl
   where
     whole-header : ltb (length f) headerSize ≡ false
@@ -80,8 +103,8 @@ too-long f h = go (withinLimits fileLimits (countsOf f)) refl (asLaidOut f (coun
 
     go : (inside : Bool) → withinLimits fileLimits (countsOf f) ≡ inside → (laid : Bool) → asLaidOut f (countsOf f) ≡ laid
         → (openedOf fileLimits f ≡ Refused 2) ⊎ (openedOf fileLimits f ≡ Refused 3)
-    go false p laid q = inl (rw (whole-header, p))
-    go true p false q = inr (rw (whole-header, p, q))
+    go false p laid q = inl (opened-by-tests fileLimits f ∙ rw (whole-header, p))
+    go true p false q = inr (opened-by-tests fileLimits f ∙ rw (whole-header, p, q))
     go true p true q =
         let g = laid-of fileLimits f whole-header p q in
         absurd (omega (arith, g .ends-at, g .marks-fit, g .corrections-fit, g .positions-fit))

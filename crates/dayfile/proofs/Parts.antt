@@ -4,9 +4,9 @@ use mathlib.Core.List.{List, map}
 use Prim.Native.Nat.{ℕ, _+_, _-_, _*_, _/_, _≤_}
 use native.Mathlib.Omega.{arith}
 use lib.ListN.{length}
-use Rattle.numbers.specs.Bytes.{part, recordsOf}
-use Rattle.dayfile.specs.Records.{markSize, correctionSize, positionSize, markOf, correctionOf, positionOf, listsOf}
-use Rattle.dayfile.specs.Layout.{lengthOf, headerSize, correctionsStart, positionsStart, listsIn}
+use Rattle.numbers.specs.Bytes.{u32At, part, recordsOf}
+use Rattle.dayfile.specs.Records.{markSize, correctionSize, positionSize, markOf, correctionOf, positionOf}
+use Rattle.dayfile.specs.Layout.{countsOf, lengthOf, headerSize, correctionsStart, positionsStart, listsIn, listsOfFile}
 use Rattle.dayfile.specs.Steps.{LaidOut, Small}
 use Rattle.dayfile.specs.declared.file.DayFile.{DayFile}
 use Rattle.numbers.proofs.Sections.{size-is, length-part}
@@ -35,11 +35,12 @@ small s d h =
       positions = rw (positions-sized s d (h .whole)) (h .limited .positions);
     }
 
--- the parts of a file between its offsets are its sections
-pub parts-are : (s : List ℕ) (d : DayFile) {a b e : ℕ} → a ≡ correctionsStart d → b ≡ positionsStart d → e ≡ lengthOf d
-    → listsOf (part headerSize (a - headerSize) s) (part a (b - a) s) (part b (e - b) s) ≡ listsIn s d
-parts-are s d {a} {b} {e} p q r =
-    let m : a - headerSize ≡ markSize * d .marks = omega arith in
-    let c : b - a ≡ correctionSize * d .corrections = omega arith in
-    let n : e - b ≡ positionSize * d .positions = omega arith in
-    rw (m, c, n, p, q)
+-- The lists of a file that has the length of the layout have as many records as its header counts: M, C and N.
+pub header-counts : (f : List ℕ) → length f ≡ lengthOf (countsOf f)
+    → (length (listsOfFile f .marks) ≡ u32At f 0) × (length (listsOfFile f .corrections) ≡ u32At f 8) × (length (listsOfFile f .positions) ≡ u32At f 16)
+unfolding countsOf
+header-counts f whole = (marks-sized f (countsOf f) whole, corrections-sized f (countsOf f) whole, positions-sized f (countsOf f) whole)
+
+-- the bytes between two offsets are a section
+pub section-is : (s : List ℕ) (n : ℕ) {a b e : ℕ} {r : List ℕ} → r ≡ part a (e - a) s → a ≡ b → e ≡ b + n → r ≡ part b n s
+section-is s n {a} {b} {e} p q h = let k : e - a ≡ n = omega arith in rw (← q, ← k) p

@@ -1,5 +1,6 @@
 pub mod Limits
 pub mod Records
 pub mod Layout
+pub mod Opening
 pub mod Making
 pub mod Steps

@@ -4,10 +4,12 @@ use crate::records::Correction;
 use crate::records::Mark;
 use crate::records::Position;
 ghost use mathlib.Core.Path.{_≡_};
-ghost use Prim.Native.Nat.{_≤_};
+ghost use Prim.Native.Nat.{_-_, _≤_};
 ghost use lib.ListN.{length};
 ghost use Rattle.dayfile.specs.Limits.{fileLimits};
-ghost use Rattle.dayfile.specs.Layout.{headerSize, countsOf, correctionsStart, positionsStart, lengthOf, withinLimits, asLaidOut, openedOf};
+ghost use Rattle.numbers.specs.Bytes.{part};
+ghost use Rattle.dayfile.specs.Layout.{headerSize, countsOf, correctionsStart, positionsStart, lengthOf, markBytes, correctionBytes, positionBytes};
+ghost use Rattle.dayfile.specs.Opening.{withinLimits, asLaidOut, openedOf};
 
 // The counts of a day file's three sections.
 pub struct DayFile {
@@ -45,6 +47,43 @@ impl DayFile {
     {
         self.positions_start() + Position::SIZE * (self.positions as usize)
     }
+
+    // The bytes of a file's marks, as far as the file has them.
+    pub fn marks_in(self, file: &[u8]) -> &[u8]
+        ensures { λ r. ⌜ now r ≡ markBytes (now (file .entry)) self ⌝ }
+    {
+        section(file, DayFile::HEADER, self.corrections_start())
+    }
+
+    // Those of its corrections.
+    pub fn corrections_in(self, file: &[u8]) -> &[u8]
+        ensures { λ r. ⌜ now r ≡ correctionBytes (now (file .entry)) self ⌝ }
+    {
+        section(file, self.corrections_start(), self.positions_start())
+    }
+
+    // Those of its positions.
+    pub fn positions_in(self, file: &[u8]) -> &[u8]
+        ensures { λ r. ⌜ now r ≡ positionBytes (now (file .entry)) self ⌝ }
+    {
+        section(file, self.positions_start(), self.length())
+    }
+}
+
+// The bytes from one place to another, as far as the file has them.
+fn section(file: &[u8], start: usize, end: usize) -> &[u8]
+    ensures { λ r. ⌜ now r ≡ part start (end - start) (now (file .entry)) ⌝ }
+{
+    if file.len() < end {
+        if start <= file.len() {
+            return &file[start..];
+        }
+        return &file[..0];
+    }
+    if start <= end {
+        return &file[start..end];
+    }
+    &file[..0]
 }
 
 // The file's counts, or the number of the check that it fails.

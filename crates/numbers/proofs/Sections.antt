@@ -1,11 +1,11 @@
 -- A section's records by index, and parts of a list.
-use mathlib.Core.Path.{_≡_, refl, ap, _∙_}
+use mathlib.Core.Path.{_≡_, refl, sym, ap, _∙_}
 use mathlib.Core.List.{List, [], _++_, map, append-assoc}
-use Prim.Native.Nat.{ℕ, zero, suc, _+_, _*_, _/_, _≤_, _<_}
+use Prim.Native.Nat.{ℕ, zero, suc, _+_, _-_, _*_, _/_, _≤_, _<_}
 use native.Mathlib.Nat.{mul-zero, not-suc-le-zero, le-of-suc-le-suc}
 use native.Mathlib.Omega.{arith}
-use lib.ListN.{length, getD, take, drop, length-drop}
-use lib.Seq.{drop-drop, take-at, drop-at, take-all, length-take-le}
+use lib.ListN.{length, getD, take, drop, length-drop, drop-of-length-le}
+use lib.Seq.{drop-drop, take-at, drop-at, take-all, take-nil, length-take-le}
 use Rattle.numbers.specs.Bytes.{part, records, recordsOf}
 
 module _ {R : Type 0} (f : List ℕ → R) (w : ℕ) where
@@ -49,3 +49,14 @@ part-at a b c f n h k = rw (append-assoc a b c, drop-at a (b ++ c) f h) (take-at
 
 pub part-end : (a b : List ℕ) (f n : ℕ) → length a ≡ f → length b ≡ n → part f n (a ++ b) ≡ b
 part-end a b f n h k = rw (drop-at a b f h) (take-all n b (omega arith))
+
+-- a part that goes past the end has what there is
+pub part-rest : (a m n : ℕ) (s : List ℕ) → length s - a ≤ m → length s - a ≤ n → part a m s ≡ part a n s
+part-rest a m n s h k = take-all m (drop a s) (rw (length-drop a s) h) ∙ sym (take-all n (drop a s) (rw (length-drop a s) k))
+
+-- and one that starts there has nothing
+pub part-past : (a n : ℕ) (s : List ℕ) → length s ≤ a → [] ≡ part a n s
+part-past a n s h = sym (rw (drop-of-length-le s {i = a} h) (take-nil n))
+
+pub part-none : (a n : ℕ) (s : List ℕ) → n ≡ 0 → [] ≡ part a n s
+part-none a n s e = rw e

@@ -66,6 +66,27 @@ pub tells-either : (a b : Bool) {A B : Type 0} → Tells (not a) A → Tells (no
 tells-either true b s t = record { yes = λ e. inr (t .yes e); no = λ e. ⊎-elim (s .no refl) (t .no e) }
 tells-either false b s t = record { yes = λ e. inl (s .yes refl); no = λ e. not-both refl e }
 
+-- alternatives, the other way round
+pub or-three : {A B C : Type 0} → (A ⊎ B) ⊎ C → A ⊎ B ⊎ C
+or-three (inl (inl a)) = inl a
+or-three (inl (inr b)) = inr (inl b)
+or-three (inr c) = inr (inr c)
+
+pub or-three-back : {A B C : Type 0} → A ⊎ B ⊎ C → (A ⊎ B) ⊎ C
+or-three-back (inl a) = inl (inl a)
+or-three-back (inr (inl b)) = inl (inr b)
+or-three-back (inr (inr c)) = inr c
+
+pub or-four : {A B C D : Type 0} → ((A ⊎ B) ⊎ C) ⊎ D → A ⊎ B ⊎ C ⊎ D
+or-four (inl x) = ⊎-elim inl (λ y. inr (⊎-elim inl (λ c. inr (inl c)) y)) (or-three x)
+or-four (inr d) = inr (inr (inr d))
+
+pub or-four-back : {A B C D : Type 0} → A ⊎ B ⊎ C ⊎ D → ((A ⊎ B) ⊎ C) ⊎ D
+or-four-back (inl a) = inl (inl (inl a))
+or-four-back (inr (inl b)) = inl (inl (inr b))
+or-four-back (inr (inr (inl c))) = inl (inr c)
+or-four-back (inr (inr (inr d))) = inr d
+
 -- ---- numbers
 
 pub tells-lt : (m n : ℕ) → Tells (ltb m n) (m < n)
