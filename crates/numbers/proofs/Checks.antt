@@ -1,12 +1,13 @@
 -- The laws of checks in their order: what they decide is what their conditions in words say, and how parts of an order go together.
 use mathlib.Core.Path.{_≡_, refl, sym, ap, _∙_}
-use mathlib.Core.Bool.{Bool, false}
+use mathlib.Core.Bool.{Bool, false, cond}
 use mathlib.Core.List.{List, [], _∷_, _++_, map, List·Memᴰ}
 use mathlib.Core.Logic.{_⊎_, inl, inr, ⊎-elim, _↔_}
 use Prim.Native.Nat.{ℕ, _<_}
 use native.Mathlib.Omega.{arith}
+use Rattle.numbers.specs.Folds.{first}
 use Rattle.numbers.specs.Order.{pick, andThen, orFound, decision}
-use Rattle.numbers.specs.Checks.{Checks, _before_, numberOf, HoldsAt, Refuses, Passes, findingOf, decisionOf}
+use Rattle.numbers.specs.Checks.{Check, Checks, wholly, _before_, numberOf, HoldsAt, Refuses, Passes, findingOf, decisionOf}
 use Rattle.numbers.specs.declared.Found.{Found}
 use Rattle.numbers.specs.declared.Found.the-variants.{At, Nothing}
 use Rattle.numbers.specs.declared.deciding.Decision.{Decision}
@@ -38,6 +39,9 @@ module _ (cs : Checks) (agree : Agree cs) where
 pub agree-before : (p q : Checks) → Agree p → Agree q → Agree (p before q)
 agree-before p q a b (inl c) = a c
 agree-before p q a b (inr c) = b c
+
+pub agree-wholly : (c : Check) → ((i : ℕ) → Tells (c .test i) (c .Wrong i)) → Agree (wholly c)
+agree-wholly c t n = t
 
 -- ---- checks that pass
 
@@ -82,6 +86,11 @@ module _ {R : Type 0} (number : R → ℕ) (finding : R → Found) where
   decision-map : {S : Type 0} (f : S → R) (xs : List S) → decision number finding (map f xs) ≡ decision (λ x. number (f x)) (λ x. finding (f x)) xs
   decision-map f [] = refl
   decision-map f (x ∷ xs) = ap (pick (finding (f x)) (number (f x))) (decision-map f xs)
+
+-- one check by itself
+pub decision-wholly : (c : Check) → decisionOf (wholly c) ≡ pick (cond (c .test 0) (At 0) Nothing) (c .number) Unmet
+unfolding decisionOf first
+decision-wholly c = refl
 
 pub decision-before : (p q : Checks) → decisionOf (p before q) ≡ andThen (decisionOf p) (decisionOf q)
 unfolding decisionOf

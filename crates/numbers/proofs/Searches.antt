@@ -7,8 +7,7 @@ use native.Mathlib.Nat.{not-suc-le-zero, eq-or-lt-of-le, le-of-suc-le-suc}
 use native.Mathlib.Numerals.{add-one}
 use native.Mathlib.Omega.{arith}
 use native.Mathlib.Decide.{le-ind}
-use borrow.Author.Tests.{eq-eqb, ne-eqb}
-use Rattle.numbers.specs.Folds.{first, some, orElse, isAt}
+use Rattle.numbers.specs.Folds.{first, some, orElse, isSome}
 use Rattle.numbers.specs.declared.Found.{Found}
 use Rattle.numbers.specs.declared.Found.the-variants.{At, Nothing}
 use Rattle.numbers.proofs.Chain.{by-two}
@@ -47,19 +46,14 @@ unfolding first
 clear-first t zero h = refl
 clear-first t (suc n) h = rw (clear-first t n (λ k l. h k (omega arith)), h n (omega arith))
 
-past : (m i : ℕ) → i < m → (o : Found) → isAt o i ≡ false → (b : Bool) → isAt (orElse o (cond b (At m) Nothing)) i ≡ false
-past m i h (At k) e b = e
-past m i h Nothing e true = ne-eqb m i (λ q. omega arith)
-past m i h Nothing e false = refl
-
--- nothing below i: a test of i says whether i is what is found, however far the search goes on
-pub first-is : (t : ℕ → Bool) (n i : ℕ) → i < n → first t i ≡ Nothing → isAt (first t n) i ≡ t i
+-- one index more
+pub first-next : (t : ℕ → Bool) (i : ℕ) {o r : Found} {b : Bool} → o ≡ first t i → b ≡ t i → r ≡ orElse o (cond b (At i) Nothing) → r ≡ first t (i + 1)
 unfolding first
-first-is t n i h p = go (t i) refl
-  where
-    go : (b : Bool) → t i ≡ b → isAt (first t n) i ≡ b
-    go true e = rw (first-here t n i h p refl e) (eq-eqb i i refl)
-    go false e = le-ind (λ (m : ℕ). isAt (first t m) i ≡ false) (rw (p, e)) (λ m le q. past m i le (first t m) q (t m)) n h
+first-next t i p q e = rw (add-one, ← p, ← q) e
+
+pub found-nothing : (o : Found) → isSome o ≡ false → o ≡ Nothing
+found-nothing (At i) e = absurd (let z : _≡_ {A = ℕ} 0 1 = cc in omega arith)
+found-nothing Nothing e = refl
 
 -- ---- whether there is one
 

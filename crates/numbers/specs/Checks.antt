@@ -1,6 +1,6 @@
 -- Checks over records, in their order. Each has a number, says in words what is wrong with the record with index i, and has a test for it.
 use mathlib.Core.Bool.{Bool}
-use mathlib.Core.List.{List, _++_, map}
+use mathlib.Core.List.{List, [], _∷_, _++_, map}
 use mathlib.Core.Logic.{_⊎_, inl, inr, ⊎-elim}
 use Prim.Native.Nat.{ℕ, _<_}
 use Rattle.numbers.specs.Folds.{first}
@@ -19,6 +19,10 @@ pub record Checks : Type 1 where
   pub check : Name → Check
   pub size : Name → ℕ
   pub order : List Name
+
+-- one check of a thing as a whole, which has the index 0
+abbrev pub wholly : Check → Checks
+wholly c = record { Name = Unit {0}; check = λ n. c; size = λ n. 1; order = tt ∷ [] }
 
 -- first those of p, then those of q
 infixr 5 _before_

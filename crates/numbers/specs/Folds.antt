@@ -1,9 +1,8 @@
 -- Searches, counts and sums over the indices below n, and lists filled by index.
 use Prim.Native.Nat.{ℕ, zero, suc, _+_, _<_}
 use mathlib.Core.Path.{_≡_}
-use mathlib.Core.Bool.{Bool, false, cond, _||_}
+use mathlib.Core.Bool.{Bool, true, false, cond, _||_}
 use mathlib.Core.List.{List, [], _∷_, _++_}
-use lib.Dec.{eqb}
 use lib.ListN.{getD, drop}
 use lib.IntN.{ℤ, pos, _+ℤ_}
 use Rattle.numbers.specs.declared.Found.{Found}
@@ -19,10 +18,10 @@ unfoldable pub first : (ℕ → Bool) → ℕ → Found
 first t zero = Nothing
 first t (suc n) = orElse (first t n) (cond (t n) (At n) Nothing)
 
--- what was found is i
-abbrev pub isAt : Found → ℕ → Bool
-isAt (At k) i = eqb k i
-isAt Nothing i = false
+-- something was found
+abbrev pub isSome : Found → Bool
+isSome (At i) = true
+isSome Nothing = false
 
 -- one more than the last index below n that passes a test, 0 where none does
 unfoldable pub last : (ℕ → Bool) → ℕ → ℕ
