@@ -1,38 +1,32 @@
 -- What checks 1 to 13 say of a whole file.
 use Prim.Native.Nat.{ℕ}
 use mathlib.Core.List.{List}
-use lib.ListN.{length}
-use Rattle.numbers.specs.Folds.{count}
+use Rattle.numbers.specs.Checks.{Checks, _before_, decisionOf}
+use Rattle.numbers.specs.declared.deciding.Decision.{Decision}
+use Rattle.numbers.specs.declared.deciding.Decision.the-variants.{Met, Unmet}
 use Rattle.dayfile.specs.Limits.{Limits}
 use Rattle.dayfile.specs.Records.{Lists}
-use Rattle.dayfile.specs.Layout.{openedOf, listsIn}
-use Rattle.pairs.specs.Pairs.{numberPair, repeating}
-use Rattle.checks.specs.Checks.{verdictOf, numberOf}
-use Rattle.dayfile.specs.declared.records.Correction.{Correction}
+use Rattle.dayfile.specs.Layout.{countsOf, listsOfFile}
+use Rattle.dayfile.specs.Opening.{headerChecks}
 use Rattle.dayfile.specs.declared.file.DayFile.{DayFile}
-use Rattle.dayfile.specs.declared.file.Opened.{Opened}
-use Rattle.dayfile.specs.declared.file.Opened.the-variants as opened
-use Rattle.checks.specs.declared.order.Verdict.{Verdict}
-use Rattle.checks.specs.declared.order.Verdict.the-variants.{Passed, Failed}
+use Rattle.checks.specs.Marks.{markChecks}
+use Rattle.checks.specs.Corrections.{correctionChecks, resentOf}
+use Rattle.checks.specs.Positions.{positionChecks}
 use Rattle.checks.specs.declared.judging.Judged.{Judged}
 use Rattle.checks.specs.declared.judging.Judged.the-variants.{Sound, Refused}
 
--- how many corrections bear a number that an earlier one bears
-abbrev pub resentOf : List Correction → ℕ
-resentOf cs = count (repeating (numberPair cs)) (length cs)
+-- the checks over the records of three lists: 4 to 13
+abbrev pub recordChecks : Lists → Checks
+recordChecks ls = markChecks (ls .marks) before correctionChecks (ls .marks) (ls .corrections) before positionChecks (ls .marks) (ls .positions)
 
-abbrev pub judgedBy : Lists → DayFile → Verdict → Judged
-judgedBy l d (Failed c i) = Refused (numberOf c) i
-judgedBy l d Passed = Sound d (resentOf (l .corrections))
+-- those over a file: 1 to 13
+abbrev pub fileChecks : Limits → List ℕ → Checks
+fileChecks l f = headerChecks l f before recordChecks (listsOfFile f)
 
--- the checks over the records
-abbrev pub judgedLists : Lists → DayFile → Judged
-judgedLists l d = judgedBy l d (verdictOf l)
+abbrev pub judgedBy : DayFile → ℕ → Decision → Judged
+judgedBy counts resent (Met k i) = Refused k i
+judgedBy counts resent Unmet = Sound counts resent
 
-abbrev pub judgedOpened : List ℕ → Opened → Judged
-judgedOpened s (opened.Refused k) = Refused k 0
-judgedOpened s (opened.File d) = judgedLists (listsIn s d) d
-
--- all of them
+-- the number and the record that refuse a file, or the counts of its header and its resent count
 unfoldable pub judgedOf : Limits → List ℕ → Judged
-judgedOf l s = judgedOpened s (openedOf l s)
+judgedOf l f = judgedBy (countsOf f) (resentOf (listsOfFile f .corrections)) (decisionOf (fileChecks l f))

@@ -1,7 +1,6 @@
 pub mod Table
-pub mod Faults
-pub mod Checks
+pub mod Marks
+pub mod Corrections
+pub mod Positions
 pub mod Judging
-pub mod Told
-pub mod Steps
-pub mod Sweeps
+pub mod Looks

@@ -1,17 +1,18 @@
 // What the checks say of a whole day file.
-use crate::order::Verdict;
-use crate::order::checked;
-use crate::order::number;
-use crate::told::look_for_pairs;
+use crate::corrections::decide_corrections;
+use crate::marks::decide_marks;
+use crate::positions::decide_positions;
 use dayfile::DayFile;
 use dayfile::Opened;
 use dayfile::open_file;
+use numbers::Decision;
 ghost use mathlib.Core.Path.{_≡_};
+ghost use Rattle.numbers.specs.Checks.{decisionOf};
 ghost use Rattle.dayfile.specs.Limits.{fileLimits};
-ghost use Rattle.dayfile.specs.Records.{listsOf};
-ghost use Rattle.dayfile.specs.Layout.{listsIn};
-ghost use Rattle.checks.specs.Judging.{judgedLists, judgedOf};
-ghost use Rattle.dayfile.specs.Steps.{LaidOut, Small};
+ghost use Rattle.dayfile.specs.Records.{listsOf, correctionsIn};
+ghost use Rattle.dayfile.specs.Steps.{Small};
+ghost use Rattle.checks.specs.Corrections.{resentOf};
+ghost use Rattle.checks.specs.Judging.{recordChecks, judgedBy, judgedOf};
 
 // A file that passes checks 1 to 13: its counts, and how many of its corrections bear a number that an earlier one bears. Or the number of
 // the check that turns it away, and the record's index.
@@ -20,39 +21,23 @@ pub enum Judged {
     Refused { number: u32, index: usize },
 }
 
-// The checks over the records.
+// The checks over the records, section by section.
 fn judge_records(marks: &[u8], corrections: &[u8], positions: &[u8], counts: DayFile) -> Judged
     requires { ⌜ Small (listsOf (now marks) (now corrections) (now positions)) ⌝ }
-    ensures { λ r. ⌜ r ≡ judgedLists (listsOf (now (marks .entry)) (now (corrections .entry)) (now (positions .entry))) counts ⌝ }
+    ensures { λ r. ⌜ r ≡ judgedBy counts (resentOf (correctionsIn (now (corrections .entry)))) (decisionOf (recordChecks (listsOf (now (marks .entry)) (now (corrections .entry)) (now (positions .entry))))) ⌝ }
 {
-    let told = look_for_pairs(marks, corrections);
-    match checked(marks, corrections, positions, told) {
-        Verdict::Failed(c, i) => Judged::Refused {
-            number: number(c),
-            index: i,
-        },
-        Verdict::Passed => Judged::Sound {
+    let mut ticks = [0u32; DayFile::MAX_MARKS];
+    let of_marks = decide_marks(marks, &mut ticks);
+    let of_corrections = decide_corrections(marks, &ticks, corrections);
+    let of_positions = decide_positions(marks, positions);
+    let later = of_corrections.decision.and_then(of_positions);
+    match of_marks.and_then(later) {
+        Decision::Met { number, index } => Judged::Refused { number, index },
+        Decision::Unmet => Judged::Sound {
             counts,
-            resent: told.resent,
+            resent: of_corrections.resent,
         },
     }
-}
-
-// Lends the file's three sections.
-fn judge_laid_out(s: &[u8], d: DayFile) -> Judged
-    requires { ⌜ LaidOut (now s) d ⌝ }
-    ensures { λ r. ⌜ r ≡ judgedLists (listsIn (now (s .entry)) d) d ⌝ }
-{
-    let start = DayFile::HEADER;
-    let corrections = d.corrections_start();
-    let positions = d.positions_start();
-    let end = d.length();
-    judge_records(
-        &s[start..corrections],
-        &s[corrections..positions],
-        &s[positions..end],
-        d,
-    )
 }
 
 // Checks 1 to 13, in their order.
@@ -64,6 +49,11 @@ pub fn judge(file: &[u8]) -> Judged
             number: k,
             index: 0,
         },
-        Opened::File(d) => judge_laid_out(file, d),
+        Opened::File(d) => judge_records(
+            d.marks_in(file),
+            d.corrections_in(file),
+            d.positions_in(file),
+            d,
+        ),
     }
 }

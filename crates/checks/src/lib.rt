@@ -1,10 +1,13 @@
-// The checks that a day file must pass to be settled.
-mod faults;
+// The checks that a day file must pass to be settled: a part for each section, and all of them over a whole file.
+mod clashes;
+mod corrections;
 mod judging;
-mod order;
-mod sweeps;
-mod table;
-mod told;
+mod marks;
+mod positions;
 
+pub use corrections::Corrected;
+pub use corrections::check_corrections;
 pub use judging::Judged;
 pub use judging::judge;
+pub use marks::check_marks;
+pub use positions::check_positions;

@@ -1,6 +1,0 @@
-pub mod Passed
-mod Judgements
-mod Clashes
-mod Repeats
-mod Sweeping
-mod RawLots

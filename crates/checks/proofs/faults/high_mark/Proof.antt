@@ -1,9 +1,0 @@
-use borrow.Author.Needs.{needs}
-use Rattle.checks.proofs.faults.high_mark.Statement.{statement}
-use Rattle.checks.proofs.faults.high_mark.Tie as tie
-
-returns : tie.Need-returns
-returns c = cc
-
-pub high-mark-spec : {M : Type 1} → statement M
-high-mark-spec = tie.close (tie.spec (λ c κs. search needs) (λ c κs. search needs) returns)

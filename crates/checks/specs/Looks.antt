@@ -1,0 +1,139 @@
+-- What the code looks at, record by record. No statement about a file rests on this.
+use mathlib.Core.Path.{_≡_}
+use Prim.Native.Nat.{ℕ, zero, suc, _+_, _*_, _%_, _≤_}
+use mathlib.Core.Bool.{Bool, false, cond, not, _||_}
+use mathlib.Core.List.{List}
+use lib.Dec.{leb, ltb, eqb}
+use lib.ListN.{length}
+use Rattle.numbers.specs.Folds.{orElse, first, last, Holds}
+use Rattle.numbers.specs.Order.{pick}
+use Rattle.numbers.specs.declared.Found.{Found}
+use Rattle.numbers.specs.declared.Found.the-variants.{At, Nothing}
+use Rattle.numbers.specs.declared.deciding.Decision.{Decision}
+use Rattle.numbers.specs.declared.deciding.Decision.the-variants.{Unmet}
+use Rattle.products.specs.Products.{hasMonth}
+use Rattle.products.specs.declared.table.Product.{Product}
+use Rattle.dayfile.specs.Limits.{fileLimits, yearLimit, lotsLimit}
+use Rattle.dayfile.specs.Records.{markAt, correctionAt, positionAt}
+use Rattle.dayfile.specs.declared.records.Mark.{Mark}
+use Rattle.dayfile.specs.declared.records.Correction.{Correction}
+use Rattle.dayfile.specs.declared.records.Position.{Position}
+use Rattle.dayfile.specs.declared.records.RawPosition.{RawPosition}
+use Rattle.checks.specs.Table.{tickOf}
+use Rattle.checks.specs.Marks.{badCode, badDate, highMark, offMark}
+use Rattle.checks.specs.Corrections.{badPrice, numberPair, clashPair}
+use Rattle.checks.specs.Positions.{badLots}
+use Rattle.checks.specs.declared.marks.MarkLook.{MarkLook}
+use Rattle.checks.specs.declared.marks.MarkFindings.{MarkFindings}
+use Rattle.checks.specs.declared.corrections.CorrectionLook.{CorrectionLook}
+use Rattle.checks.specs.declared.corrections.CorrectionFindings.{CorrectionFindings}
+use Rattle.checks.specs.declared.positions.PositionLook.{PositionLook}
+use Rattle.checks.specs.declared.positions.PositionFindings.{PositionFindings}
+
+-- ---- what is wrong with one record
+
+abbrev pub markLook : Mark → MarkLook
+markLook m = record { code = badCode m; date = badDate m; high = highMark m; off = offMark m; tick = tickOf (m .code) }
+
+abbrev pub correctionLook : List Mark → Correction → CorrectionLook
+correctionLook ms c = record { unnamed = leb (length ms) (c .mark); price = badPrice (markAt ms (c .mark)) (c .price) }
+
+abbrev pub positionLook : List Mark → Position → PositionLook
+positionLook ms p = record { unnamed = leb (length ms) (p .mark); lots = badLots (p .lots) }
+
+-- a mark of a product
+abbrev pub lookBy : Product → Mark → MarkLook
+lookBy q m =
+    record {
+      code = false;
+      date = not (hasMonth q (m .month)) || ltb yearLimit (m .year);
+      high = highMark m;
+      off = not (eqb (m .previous % q .tick) 0) || not (eqb (m .today % q .tick) 0);
+      tick = q .tick;
+    }
+
+-- a position as its bytes have it, given how many marks there are
+abbrev pub rawLook : ℕ → RawPosition → PositionLook
+rawLook n w =
+    let moved = (w .lots + lotsLimit) % 4_294_967_296 in
+    record { unnamed = leb n (w .mark); lots = eqb moved lotsLimit || ltb (2 * lotsLimit) moved }
+
+-- whether anything is
+abbrev pub anyMark : MarkLook → Bool
+anyMark l = l .code || l .date || l .high || l .off
+
+abbrev pub anyCorrection : CorrectionLook → Bool
+anyCorrection l = l .unnamed || l .price
+
+abbrev pub anyPosition : PositionLook → Bool
+anyPosition l = l .unnamed || l .lots
+
+-- ---- the first of n records with each fault
+
+abbrev pub markFindings : List Mark → ℕ → MarkFindings
+markFindings ms n =
+    record {
+      code = first (λ i. badCode (markAt ms i)) n;
+      date = first (λ i. badDate (markAt ms i)) n;
+      high = first (λ i. highMark (markAt ms i)) n;
+      off = first (λ i. offMark (markAt ms i)) n;
+    }
+
+abbrev pub correctionFindings : List Mark → List Correction → ℕ → CorrectionFindings
+correctionFindings ms cs n =
+    record {
+      unnamed = first (λ i. leb (length ms) (correctionAt cs i .mark)) n;
+      price = first (λ i. badPrice (markAt ms (correctionAt cs i .mark)) (correctionAt cs i .price)) n;
+    }
+
+abbrev pub positionFindings : List Mark → List Position → ℕ → PositionFindings
+positionFindings ms ps n =
+    record { unnamed = first (λ i. leb (length ms) (positionAt ps i .mark)) n; lots = first (λ i. badLots (positionAt ps i .lots)) n }
+
+-- one record more
+abbrev pub also : Found → Bool → ℕ → Found
+also o b i = orElse o (cond b (At i) Nothing)
+
+abbrev pub withMark : MarkFindings → MarkLook → ℕ → MarkFindings
+withMark f l i =
+    record { code = also (f .code) (l .code) i; date = also (f .date) (l .date) i; high = also (f .high) (l .high) i; off = also (f .off) (l .off) i }
+
+abbrev pub withCorrection : CorrectionFindings → CorrectionLook → ℕ → CorrectionFindings
+withCorrection f l i = record { unnamed = also (f .unnamed) (l .unnamed) i; price = also (f .price) (l .price) i }
+
+abbrev pub withPosition : PositionFindings → PositionLook → ℕ → PositionFindings
+withPosition f l i = record { unnamed = also (f .unnamed) (l .unnamed) i; lots = also (f .lots) (l .lots) i }
+
+-- the checks in their order, by what was found
+abbrev pub markDecision : MarkFindings → Found → Decision
+markDecision f repeated = pick (f .code) 4 (pick (f .date) 5 (pick (f .high) 6 (pick (f .off) 7 (pick repeated 8 Unmet))))
+
+abbrev pub correctionDecision : CorrectionFindings → Found → Decision
+correctionDecision f clash = pick (f .unnamed) 9 (pick (f .price) 10 (pick clash 11 Unmet))
+
+abbrev pub positionDecision : PositionFindings → Decision
+positionDecision f = pick (f .unnamed) 12 (pick (f .lots) 13 Unmet)
+
+-- ---- arrays
+
+-- an array has the ticks of the marks
+abbrev pub tickAt : List Mark → ℕ → ℕ
+tickAt ms m = tickOf (markAt ms m .code)
+
+pub record Ticks (ms : List Mark) (a : List ℕ) : Type 0 where
+  pub few : length ms ≤ fileLimits .marks
+  pub ticks : Holds 0 (tickAt ms) (length ms) a
+
+-- an array has for each correction the last earlier one with its number, as one more than its index
+pub record Lasts (cs : List Correction) (a : List ℕ) : Type 0 where
+  pub few : length cs ≤ fileLimits .corrections
+  pub lasts : Holds 0 (λ i. last (numberPair cs i) i) (length cs) a
+
+-- correction i clashes with correction k − 1; it does not where k is 0
+unfoldable pub clashesBelow : List Correction → ℕ → ℕ → Bool
+clashesBelow cs i zero = false
+clashesBelow cs i (suc j) = clashPair cs i j
+
+-- 1 where a test is passed
+abbrev pub bit : Bool → ℕ
+bit b = cond b 1 0

@@ -1,0 +1,59 @@
+-- The checks over the positions, given the marks: 12 and 13.
+use mathlib.Core.Path.{_≡_}
+use mathlib.Core.Bool.{Bool, _||_}
+use mathlib.Core.List.{List, [], _∷_}
+use mathlib.Core.Logic.{_⊎_}
+use Prim.Native.Nat.{ℕ, _≤_, _<_}
+use lib.Dec.{leb, ltb}
+use lib.IntN.{ℤ, pos, negℤ}
+use lib.ListN.{length}
+use lib.Signed.{ltZ, _<ℤ_}
+use Rattle.numbers.specs.Integers.{isZero}
+use Rattle.numbers.specs.Checks.{Check, Checks, wholly, _before_}
+use Rattle.dayfile.specs.Limits.{fileLimits, lotsLimit}
+use Rattle.dayfile.specs.Records.{positionAt}
+use Rattle.dayfile.specs.declared.records.Mark.{Mark}
+use Rattle.dayfile.specs.declared.records.Position.{Position}
+
+-- the test of a position's lots
+abbrev pub badLots : ℤ → Bool
+badLots z = isZero z || ltZ z (negℤ (pos lotsLimit)) || ltZ (pos lotsLimit) z
+
+-- ---- the checks
+
+pub data PositionCheck : Type 0 where
+  PositionMark : PositionCheck
+  PositionLots : PositionCheck
+
+module _ (ms : List Mark) (ps : List Position) where
+  abbrev pub positionCheck : PositionCheck → Check
+  -- 12: a position names no mark
+  positionCheck PositionMark =
+      record {
+        number = 12;
+        Wrong = λ i. length ms ≤ positionAt ps i .mark;
+        test = λ i. leb (length ms) (positionAt ps i .mark);
+      }
+  -- 13: a position's lots are 0, below −1,000,000 or above 1,000,000
+  positionCheck PositionLots =
+      record {
+        number = 13;
+        Wrong = λ i. let z = positionAt ps i .lots in (z ≡ pos 0) ⊎ (z <ℤ negℤ (pos lotsLimit)) ⊎ (pos lotsLimit <ℤ z);
+        test = λ i. badLots (positionAt ps i .lots);
+      }
+
+  abbrev pub positionChecks : Checks
+  positionChecks =
+      record { Name = PositionCheck; check = positionCheck; size = λ c. length ps; order = PositionMark ∷ PositionLots ∷ [] }
+
+  -- the same of lists that stand in no file: 2 where one has more records than a file may have, before the others
+  abbrev pub manyPositions : Check
+  manyPositions =
+      record {
+        number = 2;
+        Wrong = λ i. (fileLimits .marks < length ms) ⊎ (fileLimits .positions < length ps);
+        test = λ i. ltb (fileLimits .marks) (length ms) || ltb (fileLimits .positions) (length ps);
+      }
+
+  abbrev pub positionsAlone : Checks
+  positionsAlone = wholly manyPositions before positionChecks

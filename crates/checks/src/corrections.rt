@@ -1,0 +1,161 @@
+// The checks over the corrections, given the marks: 9 to 11. One pass asks whether anything is wrong; only where something is, a second one
+// finds which correction fails which check. Both look at a correction by the same function.
+use crate::clashes::first_clash;
+use crate::clashes::last_with_number;
+use crate::clashes::resent_count;
+use crate::marks::above_limit;
+use crate::marks::decide_marks;
+use dayfile::Correction;
+use dayfile::DayFile;
+use dayfile::correction_at;
+use dayfile::correction_count;
+use dayfile::mark_count;
+use numbers::Decision;
+use numbers::Found;
+use products::off_tick;
+ghost use mathlib.Core.Path.{_≡_};
+ghost use Prim.Native.Nat.{_≤_};
+ghost use lib.ListN.{length};
+ghost use Rattle.numbers.specs.Folds.{some};
+ghost use Rattle.numbers.specs.Checks.{decisionOf};
+ghost use Rattle.dayfile.specs.Limits.{fileLimits};
+ghost use Rattle.dayfile.specs.Records.{marksIn, correctionsIn, correctionAt};
+ghost use Rattle.checks.specs.Corrections.{correctionChecks, correctedOf, resentOf};
+ghost use Rattle.checks.specs.Looks.{correctionLook, anyCorrection, correctionFindings, withCorrection, correctionDecision, Ticks};
+
+// What is wrong with a correction by itself.
+pub struct CorrectionLook {
+    // 9: it names no mark
+    pub unnamed: bool,
+    // 10: its price breaks 6 or 7 for its mark
+    pub price: bool,
+}
+
+// Looks at a correction, given how many marks there are, and their ticks.
+fn look(marks: &[u8], ticks: &[u32; DayFile::MAX_MARKS], c: Correction) -> CorrectionLook
+    requires { ⌜ Ticks (marksIn (now marks)) (now ticks) ⌝ }
+    ensures { λ r. ⌜ r ≡ correctionLook (marksIn (now (marks .entry))) c ⌝ }
+{
+    let m = c.mark;
+    if mark_count(marks) <= m {
+        return CorrectionLook {
+            unnamed: true,
+            price: above_limit(c.price),
+        };
+    }
+    CorrectionLook {
+        unnamed: false,
+        price: above_limit(c.price) | off_tick(c.price, ticks[m]),
+    }
+}
+
+fn any(l: CorrectionLook) -> bool
+    ensures { λ r. ⌜ r ≡ anyCorrection l ⌝ }
+{
+    l.unnamed | l.price
+}
+
+// Whether anything is wrong with some correction by itself.
+fn look_at_all(marks: &[u8], ticks: &[u32; DayFile::MAX_MARKS], corrections: &[u8]) -> bool
+    requires { ⌜ Ticks (marksIn (now marks)) (now ticks) ⌝ }
+    ensures { λ r. ⌜ r ≡ some (λ i. anyCorrection (correctionLook (marksIn (now (marks .entry))) (correctionAt (correctionsIn (now (corrections .entry))) i))) (length (correctionsIn (now (corrections .entry)))) ⌝ }
+{
+    let n = correction_count(corrections);
+    let mut bad = false;
+    let mut i = 0;
+    while i < n {
+        bad = bad | any(look(marks, ticks, correction_at(corrections, i)));
+        i += 1;
+    }
+    bad
+}
+
+// The first correction with each fault.
+pub struct CorrectionFindings {
+    pub unnamed: Found,
+    pub price: Found,
+}
+
+// One correction more.
+fn with_correction(f: CorrectionFindings, l: CorrectionLook, i: usize) -> CorrectionFindings
+    ensures { λ r. ⌜ r ≡ withCorrection f l i ⌝ }
+{
+    CorrectionFindings {
+        unnamed: f.unnamed.or_at(l.unnamed, i),
+        price: f.price.or_at(l.price, i),
+    }
+}
+
+fn find_first(marks: &[u8], ticks: &[u32; DayFile::MAX_MARKS], corrections: &[u8]) -> CorrectionFindings
+    requires { ⌜ Ticks (marksIn (now marks)) (now ticks) ⌝ }
+    ensures { λ r. ⌜ r ≡ correctionFindings (marksIn (now (marks .entry))) (correctionsIn (now (corrections .entry))) (length (correctionsIn (now (corrections .entry)))) ⌝ }
+{
+    let n = correction_count(corrections);
+    let mut f = CorrectionFindings {
+        unnamed: Found::Nothing,
+        price: Found::Nothing,
+    };
+    let mut i = 0;
+    while i < n {
+        f = with_correction(f, look(marks, ticks, correction_at(corrections, i)), i);
+        i += 1;
+    }
+    f
+}
+
+// The checks in their order. The first correction that clashes with an earlier one is known.
+fn decide(f: CorrectionFindings, clash: Found) -> Decision
+    ensures { λ r. ⌜ r ≡ correctionDecision f clash ⌝ }
+{
+    let d = Decision::Unmet;
+    let d = d.or(9, f.unnamed);
+    let d = d.or(10, f.price);
+    d.or(11, clash)
+}
+
+// What the checks over corrections decide, and how many corrections bear a number that an earlier one bears.
+pub struct Corrected {
+    pub decision: Decision,
+    pub resent: usize,
+}
+
+// What the checks decide of corrections within the file's limit, given the marks and their ticks.
+pub(crate) fn decide_corrections(marks: &[u8], ticks: &[u32; DayFile::MAX_MARKS], corrections: &[u8]) -> Corrected
+    requires { ⌜ Ticks (marksIn (now marks)) (now ticks) × (length (correctionsIn (now corrections)) ≤ fileLimits .corrections) ⌝ }
+    ensures { λ r. ⌜ (r .decision ≡ decisionOf (correctionChecks (marksIn (now (marks .entry))) (correctionsIn (now (corrections .entry))))) × (r .resent ≡ resentOf (correctionsIn (now (corrections .entry)))) ⌝ }
+{
+    let bad = look_at_all(marks, ticks, corrections);
+    let mut numbers = [0u16; DayFile::MAX_CORRECTIONS];
+    last_with_number(corrections, &mut numbers);
+    let clash = first_clash(corrections, &numbers);
+    let resent = resent_count(corrections, &numbers);
+    if bad | clash.is_some() {
+        return Corrected {
+            decision: decide(find_first(marks, ticks, corrections), clash),
+            resent,
+        };
+    }
+    Corrected {
+        decision: Decision::Unmet,
+        resent,
+    }
+}
+
+// What the checks decide of a list of corrections, given the marks: 2 where a file may not have as many of either, then 9 to 11. The resent
+// count goes with them; it is 0 with a refusal 2.
+pub fn check_corrections(marks: &[u8], corrections: &[u8]) -> Corrected
+    ensures { λ r. ⌜ r ≡ correctedOf (marksIn (now (marks .entry))) (correctionsIn (now (corrections .entry))) ⌝ }
+{
+    if (mark_count(marks) > DayFile::MAX_MARKS) | (correction_count(corrections) > DayFile::MAX_CORRECTIONS) {
+        return Corrected {
+            decision: Decision::Met {
+                number: 2,
+                index: 0,
+            },
+            resent: 0,
+        };
+    }
+    let mut ticks = [0u32; DayFile::MAX_MARKS];
+    decide_marks(marks, &mut ticks);
+    decide_corrections(marks, &ticks, corrections)
+}

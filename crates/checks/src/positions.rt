@@ -1,0 +1,138 @@
+// The checks over the positions, given the marks: 12 and 13. One pass asks whether anything is wrong; only where something is, a second one
+// finds which position fails which check. Both look at a position by the same function.
+use dayfile::DayFile;
+use dayfile::RawPosition;
+use dayfile::mark_count;
+use dayfile::position_count;
+use dayfile::raw_position_at;
+use numbers::Decision;
+use numbers::Found;
+ghost use mathlib.Core.Path.{_≡_};
+ghost use Prim.Native.Nat.{_≤_};
+ghost use lib.ListN.{length};
+ghost use Rattle.numbers.specs.Folds.{some};
+ghost use Rattle.numbers.specs.Checks.{decisionOf};
+ghost use Rattle.dayfile.specs.Limits.{fileLimits};
+ghost use Rattle.dayfile.specs.Records.{marksIn, positionsIn, positionAt};
+ghost use Rattle.checks.specs.Positions.{positionChecks, positionsAlone};
+ghost use Rattle.checks.specs.Looks.{rawLook, positionLook, anyPosition, positionFindings, withPosition, positionDecision};
+
+// The most lots that a position may have, bought or sold.
+const LOTS_LIMIT: u32 = 1_000_000;
+
+// What is wrong with a position by itself.
+pub struct PositionLook {
+    // 12: it names no mark
+    pub unnamed: bool,
+    // 13: its lots are 0, or more than a position may have
+    pub lots: bool,
+}
+
+// Looks at a position as its bytes have it, given how many marks there are. The lots are moved up by the limit, so that those that pass are
+// the lowest numbers.
+fn look(n: u32, w: RawPosition) -> PositionLook
+    ensures { λ r. ⌜ r ≡ rawLook n w ⌝ }
+{
+    let moved = std::num::wrapping_add_u32(w.lots, LOTS_LIMIT);
+    PositionLook {
+        unnamed: n <= w.mark,
+        lots: (moved == LOTS_LIMIT) | (moved > 2 * LOTS_LIMIT),
+    }
+}
+
+fn any(l: PositionLook) -> bool
+    ensures { λ r. ⌜ r ≡ anyPosition l ⌝ }
+{
+    l.unnamed | l.lots
+}
+
+// How many marks, as a u32.
+fn narrow(n: usize) -> u32
+    requires { ⌜ n ≤ fileLimits .marks ⌝ }
+    ensures { λ r. ⌜ r ≡ n ⌝ }
+{
+    n as u32
+}
+
+// Whether anything is wrong with some position by itself. All are looked at, in numbers of 32 bits: so the compiler takes four at a time.
+fn look_at_all(marks: &[u8], positions: &[u8]) -> bool
+    requires { ⌜ length (marksIn (now marks)) ≤ fileLimits .marks ⌝ }
+    ensures { λ r. ⌜ r ≡ some (λ i. anyPosition (positionLook (marksIn (now (marks .entry))) (positionAt (positionsIn (now (positions .entry))) i))) (length (positionsIn (now (positions .entry)))) ⌝ }
+{
+    let m = narrow(mark_count(marks));
+    let n = position_count(positions);
+    let mut bad = false;
+    let mut i = 0;
+    while i < n {
+        bad = bad | any(look(m, raw_position_at(positions, i)));
+        i += 1;
+    }
+    bad
+}
+
+// The first position with each fault.
+pub struct PositionFindings {
+    pub unnamed: Found,
+    pub lots: Found,
+}
+
+// One position more.
+fn with_position(f: PositionFindings, l: PositionLook, i: usize) -> PositionFindings
+    ensures { λ r. ⌜ r ≡ withPosition f l i ⌝ }
+{
+    PositionFindings {
+        unnamed: f.unnamed.or_at(l.unnamed, i),
+        lots: f.lots.or_at(l.lots, i),
+    }
+}
+
+fn find_first(marks: &[u8], positions: &[u8]) -> PositionFindings
+    requires { ⌜ length (marksIn (now marks)) ≤ fileLimits .marks ⌝ }
+    ensures { λ r. ⌜ r ≡ positionFindings (marksIn (now (marks .entry))) (positionsIn (now (positions .entry))) (length (positionsIn (now (positions .entry)))) ⌝ }
+{
+    let m = narrow(mark_count(marks));
+    let n = position_count(positions);
+    let mut f = PositionFindings {
+        unnamed: Found::Nothing,
+        lots: Found::Nothing,
+    };
+    let mut i = 0;
+    while i < n {
+        f = with_position(f, look(m, raw_position_at(positions, i)), i);
+        i += 1;
+    }
+    f
+}
+
+// The checks in their order.
+fn decide(f: PositionFindings) -> Decision
+    ensures { λ r. ⌜ r ≡ positionDecision f ⌝ }
+{
+    let d = Decision::Unmet;
+    let d = d.or(12, f.unnamed);
+    d.or(13, f.lots)
+}
+
+// What the checks decide of positions, given marks within the file's limit.
+pub(crate) fn decide_positions(marks: &[u8], positions: &[u8]) -> Decision
+    requires { ⌜ length (marksIn (now marks)) ≤ fileLimits .marks ⌝ }
+    ensures { λ r. ⌜ r ≡ decisionOf (positionChecks (marksIn (now (marks .entry))) (positionsIn (now (positions .entry)))) ⌝ }
+{
+    if look_at_all(marks, positions) {
+        return decide(find_first(marks, positions));
+    }
+    Decision::Unmet
+}
+
+// What the checks decide of a list of positions, given the marks: 2 where a file may not have as many of either, then 12 and 13.
+pub fn check_positions(marks: &[u8], positions: &[u8]) -> Decision
+    ensures { λ r. ⌜ r ≡ decisionOf (positionsAlone (marksIn (now (marks .entry))) (positionsIn (now (positions .entry)))) ⌝ }
+{
+    if (mark_count(marks) > DayFile::MAX_MARKS) | (position_count(positions) > DayFile::MAX_POSITIONS) {
+        return Decision::Met {
+            number: 2,
+            index: 0,
+        };
+    }
+    decide_positions(marks, positions)
+}
