@@ -3,7 +3,6 @@ pub mod Chain
 pub mod Searches
 pub mod Last
 pub mod Held
-pub mod Trees
 pub mod Counting
 pub mod Order
 pub mod Checks

@@ -8,12 +8,20 @@ use lib.ListN.{length, getD, take, drop, length-drop, drop-of-length-le}
 use lib.Seq.{drop-drop, take-at, drop-at, take-all, take-nil, length-take-le}
 use Rattle.numbers.specs.Bytes.{part, records, recordsOf}
 
+-- how many records a section has
+pub records-count : (w : ℕ) (s : List ℕ) → length (recordsOf w s) ≡ length s / w
+unfolding recordsOf
+records-count w s = go (length s / w) s
+  where
+    go : (n : ℕ) (s : List ℕ) → length (records w n s) ≡ n
+    go zero s = refl
+    go (suc n) s = ap suc (go n (drop w s))
+
 module _ {R : Type 0} (f : List ℕ → R) (w : ℕ) where
   length-map-records : (n : ℕ) (s : List ℕ) → length (map f (records w n s)) ≡ n
   length-map-records zero s = refl
   length-map-records (suc n) s = ap suc (length-map-records n (drop w s))
 
-  -- how many records a section has
   pub size-is : (s : List ℕ) → length (map f (recordsOf w s)) ≡ length s / w
   unfolding recordsOf
   size-is s = length-map-records (length s / w) s

@@ -5,6 +5,5 @@ pub mod Fractions
 pub mod Integers
 pub mod Bytes
 pub mod Folds
-pub mod Trees
 pub mod Order
 pub mod Checks

@@ -1,3 +1,4 @@
 pub mod Least
-mod Keyed
+pub mod Records
+mod Trees
 mod Alone

@@ -1,28 +1,49 @@
--- What the code finds a record's pairs by: a key, and where its walk in a tree starts. No statement about a file rests on this.
-use Prim.Native.Nat.{ℕ, _*_, _/_, _%_}
-use mathlib.Core.List.{List}
-use Rattle.numbers.specs.Trees.{Keys}
-use Rattle.numbers.specs.Bytes.{joined}
-use Rattle.dayfile.specs.Records.{marksIn, correctionsIn, markAt, correctionAt}
-use Rattle.dayfile.specs.declared.records.Mark.{Mark}
-use Rattle.pairs.specs.declared.keys.Pair.{Pair}
-use Rattle.pairs.specs.declared.keys.Pair.the-variants.{Contract, Number}
+-- Which earlier record of a list has the same key. The list is the bytes of its records, and a record's key the number that its first four
+-- or eight bytes make.
+use Prim.Native.Nat.{ℕ, _+_, _*_}
+use mathlib.Core.Bool.{Bool, cond}
+use mathlib.Core.List.{List, map}
+use lib.Dec.{leb, ltb, eqb}
+use lib.ListN.{length, getD}
+use Rattle.numbers.specs.Bytes.{u32At, recordsOf}
+use Rattle.numbers.specs.Folds.{last}
+use Rattle.pairs.specs.declared.keys.Key.{Key}
+use Rattle.pairs.specs.declared.keys.Key.the-variants.{Four, Eight}
 
-abbrev pub contractKey : Mark → ℕ
-contractKey m = joined (m .code .0) (m .code .1) (m .month) (m .year)
+-- how many bytes a key has
+abbrev pub widthOf : Key → ℕ
+widthOf Four = 4
+widthOf Eight = 8
 
--- what records share that make a pair
-abbrev pub keyOf : List ℕ → Pair → ℕ → ℕ
-keyOf s Contract i = contractKey (markAt (marksIn s) i)
-keyOf s Number i = correctionAt (correctionsIn s) i .number
+-- the key of a record, from its bytes
+abbrev pub keyOf : Key → List ℕ → ℕ
+keyOf Four r = u32At r 0
+keyOf Eight r = u32At r 0 + 4_294_967_296 * u32At r 4
 
--- the 32 low bits of a product
-unfoldable pub scattered : ℕ → ℕ
-scattered key = key * 2_654_435_761 % 4_294_967_296
+-- the keys of the whole records of a list
+abbrev pub keysIn : Key → ℕ → List ℕ → List ℕ
+keysIn k size s = map (keyOf k) (recordsOf size s)
 
-abbrev pub roots : ℕ
-roots = 512
+-- that of record i, 0 past the end
+unfoldable pub keyAt : Key → ℕ → List ℕ → ℕ → ℕ
+keyAt k size s i = getD (keysIn k size s) i 0
 
--- the tree's keys, and where their walks start: the nine highest bits choose a root
-abbrev pub keysOf : List ℕ → Pair → Keys
-keysOf s p = record { key = keyOf s p; roots = roots; root = λ x. scattered x / 8_388_608; rest = scattered }
+-- records i and j have the same key
+abbrev pub sameKeyIn : Key → ℕ → List ℕ → ℕ → ℕ → Bool
+sameKeyIn k size s i j = eqb (keyAt k size s i) (keyAt k size s j)
+
+-- one more than the index of the last earlier record with the key of record i, or 0
+abbrev pub earlierIn : Key → ℕ → List ℕ → ℕ → ℕ
+earlierIn k size s i = last (sameKeyIn k size s i) i
+
+-- the smaller of two numbers
+abbrev pub least : ℕ → ℕ → ℕ
+least m n = cond (leb m n) m n
+
+-- the most records that are looked at
+abbrev pub most : ℕ
+most = 4_096
+
+-- how many are: none where a record is shorter than its key
+unfoldable pub lookedAt : Key → ℕ → List ℕ → ℕ
+lookedAt k size s = cond (ltb size (widthOf k)) 0 (least most (length (recordsOf size s)))

@@ -1,2 +1,3 @@
-pub mod Pairs
 pub mod Keys
+pub mod Trees
+pub mod Walks

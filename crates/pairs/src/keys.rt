@@ -1,44 +1,72 @@
-// What a record shares with those that it makes a pair with.
-use dayfile::Mark;
-use dayfile::correction_at;
-use dayfile::correction_count;
-use dayfile::mark_at;
-use dayfile::mark_count;
+// The keys of a list of records, and how many of the records are looked at.
 use numbers::joined;
 ghost use mathlib.Core.Path.{_≡_};
-ghost use Rattle.pairs.specs.Pairs.{sizeOf};
-ghost use Rattle.pairs.specs.Keys.{contractKey, keyOf};
+ghost use Prim.Native.Nat.{_+_, _/_, _≤_, _<_};
+ghost use lib.ListN.{length};
+ghost use Rattle.numbers.specs.Bytes.{u32At};
+ghost use Rattle.pairs.specs.Keys.{widthOf, keyOf, keyAt, least, lookedAt};
 
-// Two records of a section that make a pair.
-pub enum Pair {
-    // two marks of one contract
-    Contract,
-    // two corrections with one number
-    Number,
+// How many bytes of a record its key has.
+pub enum Key {
+    Four,
+    Eight,
 }
 
-fn contract_key(m: Mark) -> u32
-    ensures { λ r. ⌜ r ≡ contractKey m ⌝ }
+// The most records that are looked at.
+pub const MOST: usize = 4_096;
+
+// The u32 at a place.
+fn u32_at(s: &[u8], i: usize) -> u32
+    requires { ⌜ i + 4 ≤ length (now s) ⌝ }
+    ensures { λ r. ⌜ r ≡ u32At (now (s .entry)) i ⌝ }
 {
-    joined(m.code.0, m.code.1, m.month, m.year)
+    joined(s[i], s[i + 1], s[i + 2], s[i + 3])
 }
 
-// The key of a section's record.
-pub(crate) fn key(section: &[u8], p: Pair, i: usize) -> u32
-    ensures { λ r. ⌜ r ≡ keyOf (now (section .entry)) p i ⌝ }
+// The key of a record's bytes.
+fn key_of(r: &[u8], key: Key) -> u64
+    requires { ⌜ widthOf key ≤ length (now r) ⌝ }
+    ensures { λ x. ⌜ x ≡ keyOf key (now (r .entry)) ⌝ }
 {
-    match p {
-        Pair::Contract => contract_key(mark_at(section, i)),
-        Pair::Number => correction_at(section, i).number,
+    match key {
+        Key::Four => u32_at(r, 0) as u64,
+        Key::Eight => (u32_at(r, 0) as u64) + 4_294_967_296 * (u32_at(r, 4) as u64),
     }
 }
 
-// How many records the section has.
-pub(crate) fn size(section: &[u8], p: Pair) -> usize
-    ensures { λ r. ⌜ r ≡ sizeOf (now (section .entry)) p ⌝ }
+// The key of record i.
+pub(crate) fn key_at(records: &[u8], size: usize, key: Key, i: usize) -> u64
+    requires { ⌜ (widthOf key ≤ size) × (i < length (now records) / size) ⌝ }
+    ensures { λ r. ⌜ r ≡ keyAt key size (now (records .entry)) i ⌝ }
 {
-    match p {
-        Pair::Contract => mark_count(section),
-        Pair::Number => correction_count(section),
+    let at = size * i;
+    let end = at + size;
+    key_of(&records[at..end], key)
+}
+
+// The smaller of two numbers.
+pub(crate) fn smaller(m: usize, n: usize) -> usize
+    ensures { λ r. ⌜ r ≡ least m n ⌝ }
+{
+    if m <= n { m } else { n }
+}
+
+fn width(key: Key) -> usize
+    ensures { λ r. ⌜ r ≡ widthOf key ⌝ }
+{
+    match key {
+        Key::Four => 4,
+        Key::Eight => 8,
+    }
+}
+
+// How many records are looked at.
+pub(crate) fn looked_at(records: &[u8], size: usize, key: Key) -> usize
+    ensures { λ r. ⌜ r ≡ lookedAt key size (now (records .entry)) ⌝ }
+{
+    if size < width(key) {
+        0
+    } else {
+        smaller(MOST, records.len() / size)
     }
 }

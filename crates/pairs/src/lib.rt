@@ -1,8 +1,9 @@
-// Records of a section that share a key with an earlier one.
+// Which earlier record has the same key. A list of records is lent as bytes; the key of a record is the number that its first four or
+// eight bytes make.
 mod keys;
 mod walks;
 
-pub use keys::Pair;
-pub use walks::LONGEST;
+pub use keys::Key;
+pub use keys::MOST;
 pub use walks::earlier;
 pub use walks::first_repeated;

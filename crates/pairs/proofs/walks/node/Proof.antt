@@ -1,5 +1,5 @@
 use native.Mathlib.Omega.{arith}
-use Rattle.numbers.proofs.Trees.{node-held}
+use Rattle.pairs.proofs.Trees.{node-held}
 use borrow.Author.Needs.{needs}
 use Rattle.pairs.proofs.walks.node.Statement.{statement}
 use Rattle.pairs.proofs.walks.node.Tie as tie

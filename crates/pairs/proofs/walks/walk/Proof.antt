@@ -2,76 +2,89 @@ use Prim.Native.Nat.{suc, _+_, _*_, _/_, _%_, _-_, _<_, _≤_}
 use mathlib.Core.Path.{_≡_, sym, _∙_}
 use native.Mathlib.Omega.{arith}
 use lib.ListN.{getD}
-use Rattle.numbers.specs.Trees.Ends.{empty, same}
-use Rattle.numbers.specs.Trees.Walk.{here}
-use Rattle.pairs.specs.Keys.{roots, scattered, keyOf, keysOf}
 use Rattle.numbers.proofs.Chain.{by-one}
-use Rattle.numbers.proofs.Trees.{Leads, leads-start, leads-on}
+use Rattle.pairs.specs.Keys.{keyAt}
+use Rattle.pairs.specs.Trees.Ends.{empty, same}
+use Rattle.pairs.specs.Trees.Walk.{here}
+use Rattle.pairs.specs.Walks.{rootOf, restOf, treeOf}
+use Rattle.pairs.proofs.Trees.{Leads, leads-start, leads-on}
 use borrow.Author.Needs.{needs}
 use Rattle.pairs.proofs.walks.walk.Statement.{statement}
 use Rattle.pairs.proofs.walks.walk.Tie as tie
 
 abbrev Inv-loop : tie.InvT-loop
-Inv-loop section p place i x rest₀ at₀ k₀ rest at k =
-    Leads (keysOf section p) place (keyOf section p i) (scattered (keyOf section p i)) (scattered (keyOf section p i) / 8388608) rest at
+Inv-loop records size key place roots i x rest₀ at₀ k₀ rest at k =
+    Leads (treeOf key size records roots) place (keyAt key size records i) (restOf (keyAt key size records i)) (rootOf roots (keyAt key size records i)) rest at
     × (k ≡ getD place at 0) × (k ≤ i) × (at < roots + 2 * i)
 
 abbrev μ-loop : tie.MeasureT-loop
-μ-loop section p place i x rest₀ at₀ k₀ rest at k = roots + 2 * i - at
+μ-loop records size key place roots i x rest₀ at₀ k₀ rest at k = roots + 2 * i - at
+
+key-at-requires : tie.Need-key-at-requires Inv-loop μ-loop
+key-at-requires c κs = let room = c .before .before .pre .1 in (room .keyed .wide (omega arith), omega (arith, room .keyed .whole))
+
+root-of-requires : tie.Need-root-of-requires Inv-loop μ-loop
+root-of-requires c κs = (c .before .before .before .before .pre .1 .rooted, c .before .before .before .before .pre .1 .small)
 
 mul-wide : tie.Need-mul-wide Inv-loop μ-loop
-mul-wide c = omega (arith, c .scatter .ensures .1)
+mul-wide c = omega (arith, c .root-of .ensures .1, c .before .before .before .before .before .pre .1 .small)
 
-element-copy-out-wide : tie.Need-element-copy-out-wide Inv-loop μ-loop
-element-copy-out-wide c = omega (arith, c .scatter .ensures .1)
+shared-slice-read-wide : tie.Need-shared-slice-read-wide Inv-loop μ-loop
+shared-slice-read-wide c = omega (arith, c .before .root-of .ensures .1, c .before .before .before .before .before .before .pre .1 .room)
 
 loop-holds : tie.Need-loop-holds Inv-loop μ-loop
-loop-holds c = (
-  rw (by-one scattered (c .before .before .scatter .ensures .0) (c .before .before .before .key .ensures)) leads-start,
-  c .wide .ensures,
-  omega (arith, c .wide .ensures, c .before .before .before .before .before .pre .0 .filled (c .before .before .scatter .result / 8388608)),
-  omega (arith, c .before .before .scatter .ensures .1),
-)
+loop-holds c =
+    let s = c .before .before .before .before .before .before .before in
+    let x = c .before .before .before .before .key-at .ensures in (
+      rw (by-one restOf (c .before .before .before .rest-of .ensures) x, by-one (rootOf (s .args .roots)) (c .before .before .root-of .ensures .0) x) leads-start,
+      c .wide .ensures,
+      omega (arith, c .wide .ensures, s .pre .0 .filled (c .before .before .root-of .result)),
+      omega (arith, c .before .before .root-of .ensures .1),
+    )
 
 sub-j : tie.Need-sub-j Inv-loop μ-loop
 sub-j c = omega arith
 
+key-at-requires-2 : tie.Need-key-at-requires-2 Inv-loop μ-loop
+key-at-requires-2 c κs = let room = c .before .before .before .before .before .before .before .before .before .pre .1 in (room .keyed .wide (omega arith), omega (arith, room .keyed .whole, c .before .loop .inv .2, c .loop-test .taken))
+
 returns : tie.Need-returns Inv-loop μ-loop
 returns c =
+    let s = c .before .before .before .before .before .before .before .before .before .before .before in
     let at = c .before .before .before .loop in
-    let e : getD (c .before .before .before .before .before .before .before .before .before .args .place .now) (at .at) 0 ≡ suc (at .k - 1) = omega arith in
-    (at .inv .0 .onward (here (same e (sym (c .before .key2 .ensures) ∙ c .if1 .taken ∙ c .before .before .before .before .before .before .before .key .ensures))), at .inv .3)
+    let e : getD (s .args .place .now) (at .at) 0 ≡ suc (at .k - 1) = omega (arith, at .inv .1, c .before .before .loop-test .taken) in
+    (at .inv .0 .onward (here (same e (sym (c .before .key-at2 .ensures) ∙ c .if1 .taken ∙ c .before .before .before .before .before .before .before .before .key-at .ensures))), at .inv .3)
 
 mul-at : tie.Need-mul-at Inv-loop μ-loop
-mul-at c = omega arith
+mul-at c = omega (arith, c .before .before .before .before .before .before .before .before .before .before .before .pre .1 .keyed .few, c .before .before .before .loop .inv .2)
 
 add-at : tie.Need-add-at Inv-loop μ-loop
-add-at c = omega arith
+add-at c = omega (arith, c .before .before .before .before .before .before .before .before .before .before .before .pre .1 .keyed .few, c .before .before .before .before .before .before .before .before .before .before .before .pre .1 .small, c .before .before .before .loop .inv .2)
 
 add-at-2 : tie.Need-add-at-2 Inv-loop μ-loop
-add-at-2 c = omega arith
+add-at-2 c = omega (arith, c .before .before .before .before .before .before .before .before .before .before .before .pre .1 .keyed .few, c .before .before .before .before .before .before .before .before .before .before .before .pre .1 .small, c .before .before .before .loop .inv .2)
 
 mul-wide-2 : tie.Need-mul-wide-2 Inv-loop μ-loop
-mul-wide-2 c = omega arith
+mul-wide-2 c = omega (arith, c .before .before .before .before .before .before .before .before .before .before .before .pre .1 .keyed .few, c .before .before .before .before .before .before .before .before .before .before .before .pre .1 .small, c .before .before .before .loop .inv .2)
 
-element-copy-out-wide-2 : tie.Need-element-copy-out-wide-2 Inv-loop μ-loop
-element-copy-out-wide-2 c = omega arith
+shared-slice-read-wide-2 : tie.Need-shared-slice-read-wide-2 Inv-loop μ-loop
+shared-slice-read-wide-2 c = omega (arith, c .before .before .before .before .before .before .before .before .before .before .before .before .pre .1 .room, c .before .before .before .before .loop .inv .2, c .before .before .before .loop-test .taken)
 
 loop-less : tie.Need-loop-less Inv-loop μ-loop
 loop-less c =
-    let s = c .before .before .before .before .before .before .before .before .before .before .before in
+    let s = c .before .before .before .before .before .before .before .before .before .before .before .before .before in
     let at = c .before .before .before .before .before .loop in
     let e : getD (s .args .place .now) (at .at) 0 ≡ suc (at .k - 1) = omega (arith, at .inv .1, c .before .before .before .before .loop-test .taken) in
     omega (arith, s .pre .0 .rising (at .at) (at .k - 1) e, at .inv .3)
 
 loop-again : tie.Need-loop-again Inv-loop μ-loop
 loop-again c =
-    let s = c .before .before .before .before .before .before .before .before .before .before .before in
+    let s = c .before .before .before .before .before .before .before .before .before .before .before .before .before in
     let at = c .before .before .before .before .before .loop in
     let e : getD (s .args .place .now) (at .at) 0 ≡ suc (at .k - 1) = omega (arith, at .inv .1, c .before .before .before .before .loop-test .taken) in (
-      leads-on e (λ q. c .before .before .if1 .left (c .before .before .before .key2 .ensures ∙ q ∙ sym (c .before .before .before .before .before .before .before .before .before .key .ensures))) (at .inv .0),
+      leads-on e (λ q. c .before .before .if1 .left (c .before .before .before .key-at2 .ensures ∙ q ∙ sym (c .before .before .before .before .before .before .before .before .before .before .key-at .ensures))) (at .inv .0),
       c .wide2 .ensures,
-      omega (arith, c .wide2 .ensures, s .pre .0 .filled (roots + 2 * (at .k - 1) + at .rest % 2)),
+      omega (arith, c .wide2 .ensures, s .pre .0 .filled (s .args .roots + 2 * (at .k - 1) + at .rest % 2)),
       omega (arith, c .before .before .before .before .loop-test .taken, at .inv .2),
     )
 
@@ -86,20 +99,21 @@ walk-spec =
     (tie.spec
     Inv-loop
     μ-loop
+    key-at-requires
     (λ c κs. search needs)
-    (λ c κs. search needs)
+    root-of-requires
     mul-wide
-    element-copy-out-wide
+    shared-slice-read-wide
     (λ c κs. search needs)
     loop-holds
     sub-j
-    (λ c κs. search needs)
+    key-at-requires-2
     returns
     mul-at
     add-at
     add-at-2
     mul-wide-2
-    element-copy-out-wide-2
+    shared-slice-read-wide-2
     (λ c κs. search needs)
     loop-less
     loop-again

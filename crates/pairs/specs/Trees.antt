@@ -1,5 +1,5 @@
 -- Indices found by their keys in a tree. A place of the tree holds 0 where it is empty, else one more than an index; each index has two places
--- below it.
+-- below it. The code finds records by it, and no statement of what the code answers rests on it.
 use mathlib.Core.Path.{_≡_}
 use mathlib.Core.Bool.{Bool}
 use mathlib.Core.List.{List}

@@ -12,11 +12,12 @@ use lib.Dec.{eqb}
 use lib.ListN.{length, getD, set, replicate, getD-replicate, length-replicate, List·getD-eq-default}
 use lib.Seq.{getD-set-same, getD-set-other}
 use borrow.Author.Tests.{eqb-true, eqb-false, ne-eqb}
 use Rattle.numbers.specs.Folds.{last}
-use Rattle.numbers.specs.Trees.{Keys, childOf, nodeOf, Ends, Walk, WalkOf, Grown, sameKey, Known, Tree}
-use Rattle.numbers.specs.Trees.Ends.{empty, same}
-use Rattle.numbers.specs.Trees.Walk.{here, on}
+use Rattle.pairs.specs.Trees.{Keys, childOf, nodeOf, Ends, Walk, WalkOf, Grown, sameKey, Known, Tree}
+use Rattle.pairs.specs.Walks.{Zeros}
+use Rattle.pairs.specs.Trees.Ends.{empty, same}
+use Rattle.pairs.specs.Trees.Walk.{here, on}
 use Rattle.numbers.proofs.Last.{last-miss, last-here, last-clear}
 
 -- ---- lists
 
@@ -28,8 +29,8 @@ after-set P l i j v d h it other = go (eqb j i) refl
     go true e = rw (eqb-true j i e, getD-set-same l i v d h) (it (eqb-true j i e))
     go false e = rw (getD-set-other l i j v d (eqb-false j i e)) (other (eqb-false j i e))
 
-getD-zeros : (n i : ℕ) → _≡_ {A = ℕ} (getD (replicate n 0) i 0) 0
-getD-zeros n i = go (decLt i n)
+pub zeros : (n : ℕ) → Zeros (replicate n 0)
+zeros n i = go (decLt i n)
   where
     go : Dec (i < n) → _≡_ {A = ℕ} (getD (replicate n 0) i 0) 0
     go (yes h) = getD-replicate n i 0 0 h
@@ -173,12 +174,12 @@ module _ {t : Keys} {n : ℕ} {places lasts : List ℕ} (tree : Tree t n places 
 -- ---- a tree from its start
 
 module _ {t : Keys} where
-  pub tree-start : (m l : ℕ) → Tree t 0 (replicate m 0) (replicate l 0)
-  tree-start m l =
+  pub tree-start : {places lasts : List ℕ} → Zeros places → Zeros lasts → Tree t 0 places lasts
+  tree-start p l =
       record {
-        grown = record { filled = λ a. omega (arith, getD-zeros m a); rising = λ a k p. absurd (omega (arith, sym p ∙ getD-zeros m a)) };
+        grown = record { filled = λ a. omega (arith, p a); rising = λ a k q. absurd (omega (arith, sym q ∙ p a)) };
         known = λ j h. absurd (not-suc-le-zero h);
-        unused = λ j h. getD-zeros l j;
+        unused = λ j h. l j;
       }
 
   module _ {n e j : ℕ} {places lasts : List ℕ} (tree : Tree t n places lasts) (w : WalkOf t places n e) (inside : e < t .roots + 2 * n) (is : j ≡ nodeOf (getD places e 0) n) where

@@ -1,0 +1,132 @@
+use Prim.Native.Nat.{_≤_, _-_}
+use mathlib.Core.Path.{_≡_, refl}
+use native.Mathlib.Omega.{arith}
+use lib.ListN.{length, length-set}
+use Rattle.numbers.specs.Folds.{front}
+use Rattle.numbers.proofs.Chain.{by-one, at-end}
+use Rattle.numbers.proofs.Tables.{filled}
+use Rattle.pairs.specs.Keys.{earlierIn}
+use Rattle.pairs.specs.Trees.{nodeOf, Tree}
+use Rattle.pairs.specs.Walks.{treeOf}
+use Rattle.pairs.proofs.Records.{room-for}
+use Rattle.pairs.proofs.Trees.{tree-start, tree-more, latest-here}
+use borrow.Author.Needs.{needs}
+use Rattle.pairs.proofs.walks.earlier_in.Statement.{statement}
+use Rattle.pairs.proofs.walks.earlier_in.Tie as tie
+
+abbrev Inv-loop : tie.InvT-loop
+Inv-loop records size key n roots place₀ last₀ found₀ i₀ place last found i =
+    ((i ≤ n) × (length place ≡ length place₀) × (length last ≡ length last₀) × (length found ≡ length found₀))
+    × Tree (treeOf key size records roots) i place last × (found ≡ front (earlierIn key size records) found₀ i)
+
+abbrev μ-loop : tie.MeasureT-loop
+μ-loop records size key n roots place₀ last₀ found₀ i₀ place last found i = n - i
+
+loop-holds : tie.Need-loop-holds Inv-loop μ-loop
+loop-holds c = let p = c .before .before .before .before .pre in ((omega arith, refl, refl, refl), tree-start (p .1) (p .2), refl)
+
+walk-requires : tie.Need-walk-requires Inv-loop μ-loop
+walk-requires c κs = let at = c .before .before .loop in (at .inv .1 .grown, rw (at .inv .0 .1) (room-for (at .i) (c .before .loop-test .taken) (c .before .before .before .before .before .before .before .pre .0)))
+
+mul-wide : tie.Need-mul-wide Inv-loop μ-loop
+mul-wide c = omega (arith, c .walk .ensures .1, c .before .before .before .before .before .before .before .before .pre .0 .small, c .before .before .before .before .before .before .before .before .pre .0 .keyed .few, c .before .before .loop-test .taken)
+
+slice-read-wide : tie.Need-slice-read-wide Inv-loop μ-loop
+slice-read-wide c = omega (arith, c .before .walk .ensures .1, c .before .before .before .before .before .before .before .before .before .pre .0 .room, c .before .before .before .before .loop .inv .0 .1, c .before .before .before .loop-test .taken)
+
+node-requires : tie.Need-node-requires Inv-loop μ-loop
+node-requires c κs = omega (arith, c .wide .ensures, c .before .before .before .before .before .loop .inv .1 .grown .filled (c .before .before .walk .result))
+
+add-place : tie.Need-add-place Inv-loop μ-loop
+add-place c = omega (arith, c .node .ensures .1, c .before .before .before .before .before .before .before .before .before .before .before .pre .0 .keyed .few, c .before .before .before .before .before .loop-test .taken)
+
+cast-place : tie.Need-cast-place Inv-loop μ-loop
+cast-place c = omega (arith, c .node .ensures .1, c .before .before .before .before .before .before .before .before .before .before .before .pre .0 .keyed .few, c .before .before .before .before .before .loop-test .taken)
+
+mul-place : tie.Need-mul-place Inv-loop μ-loop
+mul-place c = omega (arith, c .before .before .before .walk .ensures .1, c .before .before .before .before .before .before .before .before .before .before .before .pre .0 .small, c .before .before .before .before .before .before .before .before .before .before .before .pre .0 .keyed .few, c .before .before .before .before .before .loop-test .taken)
+
+slice-write-place : tie.Need-slice-write-place Inv-loop μ-loop
+slice-write-place c = omega (arith, c .before .before .before .walk .ensures .1, c .before .before .before .before .before .before .before .before .before .before .before .pre .0 .room, c .before .before .before .before .before .before .loop .inv .0 .1, c .before .before .before .before .before .loop-test .taken)
+
+mul-found : tie.Need-mul-found Inv-loop μ-loop
+mul-found c = omega (arith, c .node .ensures .1, c .before .before .before .before .before .before .before .before .before .before .before .pre .0 .keyed .few, c .before .before .before .before .before .loop-test .taken)
+
+slice-read-found : tie.Need-slice-read-found Inv-loop μ-loop
+slice-read-found c = omega (arith, c .before .node .ensures .1, c .before .before .before .before .before .before .before .before .before .before .before .before .pre .3, c .before .before .before .before .before .before .before .loop .inv .0 .2, c .before .before .before .before .before .before .loop-test .taken)
+
+mul-found-2 : tie.Need-mul-found-2 Inv-loop μ-loop
+mul-found-2 c = omega (arith, c .before .before .before .before .before .before .before .before .before .before .before .before .pre .0 .keyed .few, c .before .before .before .before .before .before .loop-test .taken)
+
+slice-write-found : tie.Need-slice-write-found Inv-loop μ-loop
+slice-write-found c = omega (arith, c .before .before .before .before .before .before .before .before .before .before .before .before .pre .4, c .before .before .before .before .before .before .before .loop .inv .0 .3, c .before .before .before .before .before .before .loop-test .taken)
+
+add-i : tie.Need-add-i Inv-loop μ-loop
+add-i c = omega arith
+
+cast-last : tie.Need-cast-last Inv-loop μ-loop
+cast-last c = omega (arith, c .before .before .before .before .before .before .before .before .before .before .before .before .pre .0 .keyed .few, c .before .before .before .before .before .before .loop-test .taken)
+
+mul-last : tie.Need-mul-last Inv-loop μ-loop
+mul-last c = omega (arith, c .before .node .ensures .1, c .before .before .before .before .before .before .before .before .before .before .before .before .pre .0 .keyed .few, c .before .before .before .before .before .before .loop-test .taken)
+
+slice-write-last : tie.Need-slice-write-last Inv-loop μ-loop
+slice-write-last c = omega (arith, c .before .node .ensures .1, c .before .before .before .before .before .before .before .before .before .before .before .before .pre .3, c .before .before .before .before .before .before .before .loop .inv .0 .2, c .before .before .before .before .before .before .loop-test .taken)
+
+loop-less : tie.Need-loop-less Inv-loop μ-loop
+loop-less c = omega arith
+
+loop-again : tie.Need-loop-again Inv-loop μ-loop
+loop-again c =
+    let s = c .before .before .before .before .before .before .before .before .before .before .before .before in
+    let at = c .before .before .before .before .before .before .before .loop in
+    let w = c .before .before .before .before .walk .ensures in
+    let h = c .before .before .before .before .before .before .loop-test .taken in
+    let is = by-one (λ k. nodeOf k (at .i)) (c .before .node .ensures .0) (c .before .before .wide .ensures) in (
+      (omega arith, simp length-set (at .inv .0 .1), simp length-set (at .inv .0 .2), simp length-set (at .inv .0 .3)),
+      tree-more (at .inv .1) (w .0) (w .1) is (omega (arith, w .1, s .pre .0 .room, at .inv .0 .1)) (omega (arith, c .before .node .ensures .1, s .pre .3, at .inv .0 .2)),
+      rw (at .inv .2) (filled (earlierIn (s .args .key) (s .args .size) (s .args .records .now)) (s .args .found .now) (at .i) (omega (arith, s .pre .4)) (latest-here (at .inv .1) (w .0) (w .1) is)),
+    )
+
+same-length : tie.Need-same-length Inv-loop μ-loop
+same-length c = c .before .loop .inv .0 .1
+
+same-length-2 : tie.Need-same-length-2 Inv-loop μ-loop
+same-length-2 c = c .before .loop .inv .0 .2
+
+same-length-3 : tie.Need-same-length-3 Inv-loop μ-loop
+same-length-3 c = c .before .loop .inv .0 .3
+
+returns : tie.Need-returns Inv-loop μ-loop
+returns c = let at = c .before .loop in at-end (front _ _) (at .inv .2) (at .inv .0 .0) (c .loop-test .left)
+
+pub earlier-in-spec : {M : Type 1} → statement M
+earlier-in-spec =
+    tie.close
+    (tie.spec
+    Inv-loop
+    μ-loop
+    loop-holds
+    walk-requires
+    mul-wide
+    slice-read-wide
+    (λ c κs. search needs)
+    node-requires
+    add-place
+    cast-place
+    mul-place
+    slice-write-place
+    mul-found
+    slice-read-found
+    mul-found-2
+    slice-write-found
+    add-i
+    cast-last
+    mul-last
+    slice-write-last
+    loop-less
+    loop-again
+    same-length
+    same-length-2
+    same-length-3
+    returns)

@@ -1,0 +1,110 @@
+use Prim.Native.Nat.{ℕ, _≤_, _-_}
+use mathlib.Core.Bool.{not}
+use mathlib.Core.Path.{_≡_, refl, sym, ap}
+use native.Mathlib.Omega.{arith}
+use lib.Dec.{eqb}
+use lib.ListN.{length, getD, length-set}
+use borrow.Author.Tests.{eq-eqb, ne-eqb}
+use Rattle.numbers.specs.Folds.{first, repeating}
+use Rattle.numbers.specs.declared.Found.the-variants.{Nothing}
+use Rattle.numbers.proofs.Chain.{at-end}
+use Rattle.numbers.proofs.Searches.{first-none, first-more, first-here}
+use Rattle.pairs.specs.Keys.{sameKeyIn}
+use Rattle.pairs.specs.Walks.{treeOf}
+use Rattle.pairs.proofs.Alone.{Alone, alone-start, alone-more, alone-finds}
+use Rattle.pairs.proofs.Records.{room-for}
+use borrow.Author.Needs.{needs}
+use Rattle.pairs.proofs.walks.first_in.Statement.{statement}
+use Rattle.pairs.proofs.walks.first_in.Tie as tie
+
+abbrev Inv-loop : tie.InvT-loop
+Inv-loop records size key n roots place₀ i₀ place i =
+    (i ≤ n) × (length place ≡ length place₀) × Alone (treeOf key size records roots) i place × (first (repeating (sameKeyIn key size records)) i ≡ Nothing)
+
+abbrev μ-loop : tie.MeasureT-loop
+μ-loop records size key n roots place₀ i₀ place i = n - i
+
+loop-holds : tie.Need-loop-holds Inv-loop μ-loop
+loop-holds c = (omega arith, refl, alone-start (c .before .before .pre .1), first-none _)
+
+walk-requires : tie.Need-walk-requires Inv-loop μ-loop
+walk-requires c κs = let at = c .before .before .loop in (at .inv .2 .grown, rw (at .inv .1) (room-for (at .i) (c .before .loop-test .taken) (c .before .before .before .before .before .pre .0)))
+
+mul-wide : tie.Need-mul-wide Inv-loop μ-loop
+mul-wide c = omega (arith, c .walk .ensures .1, c .before .before .before .before .before .before .pre .0 .small, c .before .before .before .before .before .before .pre .0 .keyed .few, c .before .before .loop-test .taken)
+
+slice-read-wide : tie.Need-slice-read-wide Inv-loop μ-loop
+slice-read-wide c = omega (arith, c .before .walk .ensures .1, c .before .before .before .before .before .before .before .pre .0 .room, c .before .before .before .before .loop .inv .1, c .before .before .before .loop-test .taken)
+
+-- a place that is not empty is a pair
+module _ (c : tie.After-wide Inv-loop μ-loop) where
+  abbrev held : ℕ
+  held = getD (c .before .before .before .before .before .loop .place) (c .before .before .walk .result) 0
+
+  pair : not (eqb held 0) ≡ repeating (sameKeyIn (c .before .before .before .before .before .before .before .before .args .key) (c .before .before .before .before .before .before .before .before .args .size) (c .before .before .before .before .before .before .before .before .args .records .now)) (c .before .before .before .before .before .loop .i)
+  pair = alone-finds (c .before .before .before .before .before .loop .inv .2) (c .before .before .walk .ensures .0) (c .before .before .walk .ensures .1)
+
+same-length : tie.Need-same-length Inv-loop μ-loop
+same-length c = c .before .before .before .before .before .before .loop .inv .1
+
+returns : tie.Need-returns Inv-loop μ-loop
+returns c =
+    let at = c .before .before .before .before .before .before .loop in
+    let full : held (c .before) ≡ 0 → ⊥ = λ z. omega (arith, c .if1 .taken, c .before .wide .ensures, z) in
+    sym (first-here _ _ (at .i) (c .before .before .before .before .before .loop-test .taken) (at .inv .3) (pair (c .before)) (ap not (ne-eqb (held (c .before)) 0 full)))
+
+add-i : tie.Need-add-i Inv-loop μ-loop
+add-i c = omega arith
+
+cast-place : tie.Need-cast-place Inv-loop μ-loop
+cast-place c = omega (arith, c .before .before .before .before .before .before .before .before .before .pre .0 .keyed .few, c .before .before .before .before .before .loop-test .taken)
+
+mul-place : tie.Need-mul-place Inv-loop μ-loop
+mul-place c = omega (arith, c .before .before .before .walk .ensures .1, c .before .before .before .before .before .before .before .before .before .pre .0 .small, c .before .before .before .before .before .before .before .before .before .pre .0 .keyed .few, c .before .before .before .before .before .loop-test .taken)
+
+slice-write-place : tie.Need-slice-write-place Inv-loop μ-loop
+slice-write-place c = omega (arith, c .before .before .before .walk .ensures .1, c .before .before .before .before .before .before .before .before .before .pre .0 .room, c .before .before .before .before .before .before .loop .inv .1, c .before .before .before .before .before .loop-test .taken)
+
+loop-less : tie.Need-loop-less Inv-loop μ-loop
+loop-less c = omega arith
+
+loop-again : tie.Need-loop-again Inv-loop μ-loop
+loop-again c =
+    let room = c .before .before .before .before .before .before .before .before .before .pre .0 in
+    let at = c .before .before .before .before .before .before .loop in
+    let w = c .before .before .before .walk .ensures in
+    let h = c .before .before .before .before .before .loop-test .taken in
+    let empty : held (c .before) ≡ 0 = omega (arith, c .if1 .left, c .before .wide .ensures) in (
+      omega arith,
+      simp length-set (at .inv .1),
+      alone-more (at .inv .2) (w .0) (w .1) empty (omega (arith, w .1, room .room, at .inv .1)) (omega (arith, room .keyed .few)),
+      first-more _ _ (at .inv .3) (pair (c .before)) (ap not (eq-eqb _ 0 empty)),
+    )
+
+same-length-2 : tie.Need-same-length-2 Inv-loop μ-loop
+same-length-2 c = c .before .loop .inv .1
+
+returns-2 : tie.Need-returns-2 Inv-loop μ-loop
+returns-2 c = let at = c .before .loop in at-end (first _) (sym (at .inv .3)) (at .inv .0) (c .loop-test .left)
+
+pub first-in-spec : {M : Type 1} → statement M
+first-in-spec =
+    tie.close
+    (tie.spec
+    Inv-loop
+    μ-loop
+    loop-holds
+    walk-requires
+    mul-wide
+    slice-read-wide
+    (λ c κs. search needs)
+    same-length
+    returns
+    add-i
+    cast-place
+    mul-place
+    slice-write-place
+    loop-less
+    loop-again
+    same-length-2
+    returns-2)

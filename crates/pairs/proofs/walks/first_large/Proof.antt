@@ -1,0 +1,16 @@
+use native.Mathlib.Omega.{arith}
+use Rattle.pairs.proofs.Records.{room-in}
+use Rattle.pairs.proofs.Trees.{zeros}
+use borrow.Author.Needs.{needs}
+use Rattle.pairs.proofs.walks.first_large.Statement.{statement}
+use Rattle.pairs.proofs.walks.first_large.Tie as tie
+
+first-in-requires : tie.Need-first-in-requires
+first-in-requires c κs = (room-in 16384 24576 (c .before .before .pre) (omega arith) (omega arith) (omega (arith, c .before .before .pre .few)), zeros 24576)
+
+pub first-large-spec : {M : Type 1} → statement M
+first-large-spec = tie.close
+    (tie.spec
+    (λ c. search needs)
+    first-in-requires
+    (λ c. search needs))
