@@ -6,7 +6,7 @@ use mathlib.Core.List.{List}
 use lib.Dec.{leb, ltb, eqb}
 use lib.ListN.{length}
 use Rattle.numbers.specs.Folds.{orElse, first, last, Holds}
-use Rattle.numbers.specs.Order.{pick}
+use Rattle.numbers.specs.Order.{orFound}
 use Rattle.numbers.specs.declared.Found.{Found}
 use Rattle.numbers.specs.declared.Found.the-variants.{At, Nothing}
 use Rattle.numbers.specs.declared.deciding.Decision.{Decision}
@@ -104,15 +104,15 @@ withCorrection f l i = record { unnamed = also (f .unnamed) (l .unnamed) i; pric
 abbrev pub withPosition : PositionFindings → PositionLook → ℕ → PositionFindings
 withPosition f l i = record { unnamed = also (f .unnamed) (l .unnamed) i; lots = also (f .lots) (l .lots) i }
 
--- the checks in their order, by what was found
+-- the checks one after the other, by what was found
 abbrev pub markDecision : MarkFindings → Found → Decision
-markDecision f repeated = pick (f .code) 4 (pick (f .date) 5 (pick (f .high) 6 (pick (f .off) 7 (pick repeated 8 Unmet))))
+markDecision f repeated = orFound (orFound (orFound (orFound (orFound Unmet 4 (f .code)) 5 (f .date)) 6 (f .high)) 7 (f .off)) 8 repeated
 
 abbrev pub correctionDecision : CorrectionFindings → Found → Decision
-correctionDecision f clash = pick (f .unnamed) 9 (pick (f .price) 10 (pick clash 11 Unmet))
+correctionDecision f clash = orFound (orFound (orFound Unmet 9 (f .unnamed)) 10 (f .price)) 11 clash
 
 abbrev pub positionDecision : PositionFindings → Decision
-positionDecision f = pick (f .unnamed) 12 (pick (f .lots) 13 Unmet)
+positionDecision f = orFound (orFound Unmet 12 (f .unnamed)) 13 (f .lots)
 
 -- ---- arrays
 

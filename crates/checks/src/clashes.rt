@@ -4,15 +4,12 @@ use dayfile::DayFile;
 use dayfile::correction_at;
 use dayfile::correction_count;
 use numbers::Found;
-use pairs::Key;
-use pairs::earlier;
 ghost use mathlib.Core.Path.{_≡_};
 ghost use mathlib.Core.Bool.{not};
 ghost use Prim.Native.Nat.{_≤_};
 ghost use lib.Dec.{eqb};
-ghost use lib.ListN.{length, replicate};
+ghost use lib.ListN.{length};
 ghost use Rattle.numbers.specs.Folds.{repeating, first};
-ghost use Rattle.dayfile.specs.Limits.{fileLimits};
 ghost use Rattle.dayfile.specs.Records.{correctionsIn};
 ghost use Rattle.checks.specs.Corrections.{clashing, clashPair, resentOf};
 ghost use Rattle.checks.specs.Looks.{clashesBelow, Lasts, bit};
@@ -35,14 +32,6 @@ fn clashes_below(corrections: &[u8], i: usize, k: u16) -> bool
         correction_at(corrections, i),
         correction_at(corrections, (k - 1) as usize),
     )
-}
-
-// For each correction the last earlier one with its number, as one more than its index, or 0.
-pub(crate) fn last_with_number(corrections: &[u8], numbers: &mut [u16; DayFile::MAX_CORRECTIONS])
-    requires { ⌜ (length (correctionsIn (now corrections)) ≤ fileLimits .corrections) × (length (now numbers) ≡ fileLimits .corrections) ⌝ }
-    ensures { λ _. ⌜ Lasts (correctionsIn (now (corrections .entry))) (now (numbers .exit)) ⌝ }
-{
-    earlier(corrections, Correction::SIZE, Key::Four, numbers);
 }
 
 // The first correction that clashes with an earlier one. Where none before it does, it is enough to look at the last with the same number.

@@ -1,7 +1,6 @@
 // The checks over the corrections, given the marks: 9 to 11. One pass asks whether anything is wrong; only where something is, a second one
 // finds which correction fails which check. Both look at a correction by the same function.
 use crate::clashes::first_clash;
-use crate::clashes::last_with_number;
 use crate::clashes::resent_count;
 use crate::marks::above_limit;
 use crate::marks::decide_marks;
@@ -12,6 +11,8 @@ use dayfile::correction_count;
 use dayfile::mark_count;
 use numbers::Decision;
 use numbers::Found;
+use pairs::Key;
+use pairs::earlier;
 use products::off_tick;
 ghost use mathlib.Core.Path.{_≡_};
 ghost use Prim.Native.Nat.{_≤_};
@@ -80,9 +81,11 @@ pub struct CorrectionFindings {
 fn with_correction(f: CorrectionFindings, l: CorrectionLook, i: usize) -> CorrectionFindings
     ensures { λ r. ⌜ r ≡ withCorrection f l i ⌝ }
 {
+    let unnamed = f.unnamed;
+    let price = f.price;
     CorrectionFindings {
-        unnamed: f.unnamed.or_at(l.unnamed, i),
-        price: f.price.or_at(l.price, i),
+        unnamed: unnamed.or_at(l.unnamed, i),
+        price: price.or_at(l.price, i),
     }
 }
 
@@ -107,9 +110,11 @@ fn find_first(marks: &[u8], ticks: &[u32; DayFile::MAX_MARKS], corrections: &[u8
 fn decide(f: CorrectionFindings, clash: Found) -> Decision
     ensures { λ r. ⌜ r ≡ correctionDecision f clash ⌝ }
 {
+    let unnamed = f.unnamed;
+    let price = f.price;
     let d = Decision::Unmet;
-    let d = d.or(9, f.unnamed);
-    let d = d.or(10, f.price);
+    let d = d.or(9, unnamed);
+    let d = d.or(10, price);
     d.or(11, clash)
 }
 
@@ -126,7 +131,7 @@ pub(crate) fn decide_corrections(marks: &[u8], ticks: &[u32; DayFile::MAX_MARKS]
 {
     let bad = look_at_all(marks, ticks, corrections);
     let mut numbers = [0u16; DayFile::MAX_CORRECTIONS];
-    last_with_number(corrections, &mut numbers);
+    earlier(corrections, Correction::SIZE, Key::Four, &mut numbers);
     let clash = first_clash(corrections, &numbers);
     let resent = resent_count(corrections, &numbers);
     if bad | clash.is_some() {

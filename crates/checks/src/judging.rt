@@ -30,8 +30,8 @@ fn judge_records(marks: &[u8], corrections: &[u8], positions: &[u8], counts: Day
     let of_marks = decide_marks(marks, &mut ticks);
     let of_corrections = decide_corrections(marks, &ticks, corrections);
     let of_positions = decide_positions(marks, positions);
-    let later = of_corrections.decision.and_then(of_positions);
-    match of_marks.and_then(later) {
+    let decision = of_corrections.decision;
+    match of_marks.and_then(decision.and_then(of_positions)) {
         Decision::Met { number, index } => Judged::Refused { number, index },
         Decision::Unmet => Judged::Sound {
             counts,

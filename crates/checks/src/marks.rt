@@ -109,11 +109,15 @@ pub struct MarkFindings {
 fn with_mark(f: MarkFindings, l: MarkLook, i: usize) -> MarkFindings
     ensures { λ r. ⌜ r ≡ withMark f l i ⌝ }
 {
+    let code = f.code;
+    let date = f.date;
+    let high = f.high;
+    let off = f.off;
     MarkFindings {
-        code: f.code.or_at(l.code, i),
-        date: f.date.or_at(l.date, i),
-        high: f.high.or_at(l.high, i),
-        off: f.off.or_at(l.off, i),
+        code: code.or_at(l.code, i),
+        date: date.or_at(l.date, i),
+        high: high.or_at(l.high, i),
+        off: off.or_at(l.off, i),
     }
 }
 
@@ -139,11 +143,15 @@ fn find_first(marks: &[u8]) -> MarkFindings
 fn decide(f: MarkFindings, repeated: Found) -> Decision
     ensures { λ r. ⌜ r ≡ markDecision f repeated ⌝ }
 {
+    let code = f.code;
+    let date = f.date;
+    let high = f.high;
+    let off = f.off;
     let d = Decision::Unmet;
-    let d = d.or(4, f.code);
-    let d = d.or(5, f.date);
-    let d = d.or(6, f.high);
-    let d = d.or(7, f.off);
+    let d = d.or(4, code);
+    let d = d.or(5, date);
+    let d = d.or(6, high);
+    let d = d.or(7, off);
     d.or(8, repeated)
 }
 

@@ -80,9 +80,11 @@ pub struct PositionFindings {
 fn with_position(f: PositionFindings, l: PositionLook, i: usize) -> PositionFindings
     ensures { λ r. ⌜ r ≡ withPosition f l i ⌝ }
 {
+    let unnamed = f.unnamed;
+    let lots = f.lots;
     PositionFindings {
-        unnamed: f.unnamed.or_at(l.unnamed, i),
-        lots: f.lots.or_at(l.lots, i),
+        unnamed: unnamed.or_at(l.unnamed, i),
+        lots: lots.or_at(l.lots, i),
     }
 }
 
@@ -108,9 +110,11 @@ fn find_first(marks: &[u8], positions: &[u8]) -> PositionFindings
 fn decide(f: PositionFindings) -> Decision
     ensures { λ r. ⌜ r ≡ positionDecision f ⌝ }
 {
+    let unnamed = f.unnamed;
+    let lots = f.lots;
     let d = Decision::Unmet;
-    let d = d.or(12, f.unnamed);
-    d.or(13, f.lots)
+    let d = d.or(12, unnamed);
+    d.or(13, lots)
 }
 
 // What the checks decide of positions, given marks within the file's limit.

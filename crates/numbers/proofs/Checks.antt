@@ -1,7 +1,7 @@
 -- The laws of checks in their order: what they decide is what their conditions in words say, and how parts of an order go together.
 use mathlib.Core.Path.{_≡_, refl, sym, ap, _∙_}
 use mathlib.Core.Bool.{Bool, false, cond}
-use mathlib.Core.List.{List, [], _∷_, _++_, map, List·Memᴰ}
+use mathlib.Core.List.{List, [], _∷_, _++_, map, foldl, List·Memᴰ}
 use mathlib.Core.Logic.{_⊎_, inl, inr, ⊎-elim, _↔_}
 use Prim.Native.Nat.{ℕ, _<_}
 use native.Mathlib.Omega.{arith}
@@ -74,8 +74,7 @@ module _ {R : Type 0} (number : R → ℕ) (finding : R → Found) where
   decision-append (x ∷ xs) ys =
       ap (pick (finding x) (number x)) (decision-append xs ys) ∙ pick-then (finding x) (number x) (decision number finding xs) (decision number finding ys)
 
-  -- the same by one check after the other
-  pub decision-steps : (d : Decision) (x : R) (xs : List R) → andThen d (decision number finding (x ∷ xs)) ≡ andThen (orFound d (number x) (finding x)) (decision number finding xs)
+  decision-steps : (d : Decision) (x : R) (xs : List R) → andThen d (decision number finding (x ∷ xs)) ≡ andThen (orFound d (number x) (finding x)) (decision number finding xs)
   decision-steps (Met k i) x xs = refl
   decision-steps Unmet x xs = by-found (finding x)
     where
@@ -86,6 +85,20 @@ module _ {R : Type 0} (number : R → ℕ) (finding : R → Found) where
   decision-map : {S : Type 0} (f : S → R) (xs : List S) → decision number finding (map f xs) ≡ decision (λ x. number (f x)) (λ x. finding (f x)) xs
   decision-map f [] = refl
   decision-map f (x ∷ xs) = ap (pick (finding (f x)) (number (f x))) (decision-map f xs)
+
+-- one check after the other
+and-none : (d : Decision) → d ≡ andThen d Unmet
+and-none (Met k i) = refl
+and-none Unmet = refl
+
+by-steps : {R : Type 0} (number : R → ℕ) (finding : R → Found) (d : Decision) (xs : List R)
+    → foldl (λ d x. orFound d (number x) (finding x)) d xs ≡ andThen d (decision number finding xs)
+by-steps number finding d [] = and-none d
+by-steps number finding d (x ∷ xs) = by-steps number finding (orFound d (number x) (finding x)) xs ∙ sym (decision-steps number finding d x xs)
+
+pub decision-by-steps : (cs : Checks) → foldl (λ d c. orFound d (numberOf cs c) (findingOf cs c)) Unmet (cs .order) ≡ decisionOf cs
+unfolding decisionOf
+decision-by-steps cs = by-steps (numberOf cs) (findingOf cs) Unmet (cs .order)
 
 -- one check by itself
 pub decision-wholly : (c : Check) → decisionOf (wholly c) ≡ pick (cond (c .test 0) (At 0) Nothing) (c .number) Unmet

@@ -1,0 +1,136 @@
+-- Each check's test is true exactly where its words say that something is wrong.
+use mathlib.Core.Path.{_≡_, refl, ap, ap₂}
+use mathlib.Core.Bool.{not, _||_, _&&_}
+use mathlib.Core.List.{List, List·Memᴰ}
+use mathlib.Core.Logic.{_⊎_, inl, inr, ⊎-elim}
+use Prim.Native.Nat.{ℕ, _%_, _<_, _∣_}
+use native.Mathlib.Nat.{mod-one}
+use native.Mathlib.Omega.{arith}
+use lib.Dec.{ltb, eqb}
+use lib.IntN.{ℤ, pos, negsuc, negℤ}
+use lib.ListN.{length}
+use lib.Signed.{ltZ, _<ℤ_}
+use Rattle.numbers.specs.Integers.{isZero}
+use Rattle.numbers.proofs.Truth.{Tells, not-both, tells-as, tells-or, tells-and, tells-not, tells-lt, tells-le, tells-eq, tells-less, tells-divides, tells-some, or-three, or-three-back}
+use Rattle.numbers.proofs.Checks.{Agree, agree-wholly, agree-before}
+use Rattle.products.specs.Products.{priceLimit, find, monthsOf, Unlisted}
+use Rattle.products.specs.declared.table.Code.{Code}
+use Rattle.products.specs.declared.table.Product.{Product}
+use Rattle.products.specs.declared.table.Found.the-variants.{At}
+use Rattle.products.proofs.Finding.{tells-unlisted, tells-product}
+use Rattle.products.proofs.Months.{month-exactly}
+use Rattle.dayfile.specs.Limits.{Limits, fileLimits, yearLimit, lotsLimit}
+use Rattle.dayfile.specs.Records.{Lists, markAt, correctionAt, positionAt}
+use Rattle.dayfile.specs.Layout.{listsOfFile}
+use Rattle.dayfile.specs.declared.records.Mark.{Mark}
+use Rattle.dayfile.specs.declared.records.Correction.{Correction}
+use Rattle.dayfile.specs.declared.records.Position.{Position}
+use Rattle.dayfile.proofs.Refusals.{header-agrees}
+use Rattle.checks.specs.Table.{aboveLimit, listed, listedIn, quoted, quotedIn, tickOf, tickIn}
+use Rattle.checks.specs.Marks.{Quoted, OffTick, offTick, SameContract, sameContract, contractPair, MarkCode, MarkDate, MarkLimit, MarkTick, MarkRepeated, markChecks, manyMarks, marksAlone}
+use Rattle.checks.specs.Corrections.{Clash, clashing, clashPair, CorrectionMark, CorrectionPrice, CorrectionClash, correctionChecks, manyCorrections, correctionsAlone}
+use Rattle.checks.specs.Positions.{badLots, PositionMark, PositionLots, positionChecks, manyPositions, positionsAlone}
+use Rattle.checks.specs.Judging.{recordChecks, fileChecks}
+
+-- ---- the product table
+
+tells-missing : (a : Code) → Tells (not (listed a)) (Unlisted a)
+unfolding listed
+tells-missing a = tells-unlisted a (λ f. not (listedIn f)) (λ q. refl) refl
+
+tells-off-tick : (a : Code) (p : ℕ) → Tells (not (eqb (p % tickOf a) 0)) ((q : Product) × (find a ≡ At q) × ¬ (q .tick ∣ p))
+unfolding tickOf
+tells-off-tick a p =
+    tells-product a (λ f. not (eqb (p % tickIn f) 0)) {A = λ q. ¬ (q .tick ∣ p)} (λ q. tells-not (eqb (p % q .tick) 0) (tells-divides (q .tick) p)) (rw (mod-one p))
+
+tells-quoted : (a : Code) (m : ℕ) → Tells (quoted a m) (Quoted a m)
+unfolding quoted
+tells-quoted a m =
+    tells-product a (λ f. quotedIn f m) {A = λ q. List·Memᴰ m (monthsOf q)}
+    (λ q. record { yes = month-exactly q m .0; no = λ h x. not-both (month-exactly q m .1 x) h }) refl
+
+above : (p : ℕ) → Tells (aboveLimit p) (priceLimit < p)
+above p = tells-lt priceLimit p
+
+off-tick : (m : Mark) (p : ℕ) → Tells (offTick m p) (OffTick m p)
+off-tick m p = tells-off-tick (m .code) p
+
+-- ---- two records
+
+code-by : (a b : Code) → a .0 ≡ b .0 → a .1 ≡ b .1 → a ≡ b
+code-by a b p q = ap₂ {C = Code} (λ (x y : ℕ). (x, y)) p q
+
+same-contract : (m n : Mark) → Tells (sameContract m n) (SameContract m n)
+same-contract m n =
+    let a = eqb (m .code .0) (n .code .0) in
+    let b = eqb (m .code .1) (n .code .1) in
+    let c = eqb (m .month) (n .month) in
+    let d = eqb (m .year) (n .year) in
+    tells-as
+    (λ x. (code-by (m .code) (n .code) (x .0 .0 .0) (x .0 .0 .1), x .0 .1, x .1))
+    (λ x. (((ap (λ k. k .0) (x .0), ap (λ k. k .1) (x .0)), x .1), x .2))
+    (tells-and (a && b && c) d (tells-and (a && b) c (tells-and a b (tells-eq _ _) (tells-eq _ _)) (tells-eq _ _)) (tells-eq _ _))
+
+clash : (c d : Correction) → Tells (clashing c d) (Clash c d)
+clash c d =
+    tells-and (eqb (c .number) (d .number)) _ (tells-eq _ _)
+    (tells-or (not (eqb (c .mark) (d .mark))) (not (eqb (c .price) (d .price))) (tells-not _ (tells-eq _ _)) (tells-not _ (tells-eq _ _)))
+
+-- ---- lots
+
+none : (z : ℤ) → Tells (isZero z) (z ≡ pos 0)
+none (pos n) = tells-as (ap pos) (λ e. cc) (tells-eq n 0)
+none (negsuc n) = record { yes = λ e. not-both e refl; no = λ e p. (let z : _≡_ {A = ℕ} 0 1 = cc in omega arith) }
+
+lots : (z : ℤ) → Tells (badLots z) ((z ≡ pos 0) ⊎ (z <ℤ negℤ (pos lotsLimit)) ⊎ (pos lotsLimit <ℤ z))
+lots z =
+    tells-as or-three or-three-back
+    (tells-or (isZero z || ltZ z (negℤ (pos lotsLimit))) (ltZ (pos lotsLimit) z)
+    (tells-or (isZero z) (ltZ z (negℤ (pos lotsLimit))) (none z) (tells-less z (negℤ (pos lotsLimit)))) (tells-less (pos lotsLimit) z))
+
+-- ---- the checks of each section
+
+pub marks-agree : (ms : List Mark) → Agree (markChecks ms)
+marks-agree ms MarkCode i = tells-missing (markAt ms i .code)
+marks-agree ms MarkDate i =
+    let m = markAt ms i in
+    tells-or (not (quoted (m .code) (m .month))) (ltb yearLimit (m .year)) (tells-not _ (tells-quoted (m .code) (m .month))) (tells-lt yearLimit (m .year))
+marks-agree ms MarkLimit i = let m = markAt ms i in tells-or (aboveLimit (m .previous)) (aboveLimit (m .today)) (above (m .previous)) (above (m .today))
+marks-agree ms MarkTick i = let m = markAt ms i in tells-or (offTick m (m .previous)) (offTick m (m .today)) (off-tick m (m .previous)) (off-tick m (m .today))
+marks-agree ms MarkRepeated i = tells-some (contractPair ms i) i (λ j. same-contract (markAt ms i) (markAt ms j))
+
+pub corrections-agree : (ms : List Mark) (cs : List Correction) → Agree (correctionChecks ms cs)
+corrections-agree ms cs CorrectionMark i = tells-le (length ms) (correctionAt cs i .mark)
+corrections-agree ms cs CorrectionPrice i =
+    let c = correctionAt cs i in
+    let m = markAt ms (c .mark) in
+    tells-or (aboveLimit (c .price)) (offTick m (c .price)) (above (c .price)) (off-tick m (c .price))
+corrections-agree ms cs CorrectionClash i = tells-some (clashPair cs i) i (λ j. clash (correctionAt cs i) (correctionAt cs j))
+
+pub positions-agree : (ms : List Mark) (ps : List Position) → Agree (positionChecks ms ps)
+positions-agree ms ps PositionMark i = tells-le (length ms) (positionAt ps i .mark)
+positions-agree ms ps PositionLots i = lots (positionAt ps i .lots)
+
+-- ---- lists that stand in no file
+
+many : (a m b n : ℕ) → Tells (ltb a m || ltb b n) ((a < m) ⊎ (b < n))
+many a m b n = tells-or (ltb a m) (ltb b n) (tells-lt a m) (tells-lt b n)
+
+pub marks-alone-agree : (ms : List Mark) → Agree (marksAlone ms)
+marks-alone-agree ms = agree-before _ _ (agree-wholly (manyMarks ms) (λ i. tells-lt (fileLimits .marks) (length ms))) (marks-agree ms)
+
+pub corrections-alone-agree : (ms : List Mark) (cs : List Correction) → Agree (correctionsAlone ms cs)
+corrections-alone-agree ms cs =
+    agree-before _ _ (agree-wholly (manyCorrections ms cs) (λ i. many (fileLimits .marks) (length ms) (fileLimits .corrections) (length cs))) (corrections-agree ms cs)
+
+pub positions-alone-agree : (ms : List Mark) (ps : List Position) → Agree (positionsAlone ms ps)
+positions-alone-agree ms ps =
+    agree-before _ _ (agree-wholly (manyPositions ms ps) (λ i. many (fileLimits .marks) (length ms) (fileLimits .positions) (length ps))) (positions-agree ms ps)
+
+-- ---- three lists, and a file
+
+pub records-agree : (ls : Lists) → Agree (recordChecks ls)
+records-agree ls = agree-before _ _ (marks-agree (ls .marks)) (agree-before _ _ (corrections-agree (ls .marks) (ls .corrections)) (positions-agree (ls .marks) (ls .positions)))
+
+pub file-agrees : (l : Limits) (f : List ℕ) → Agree (fileChecks l f)
+file-agrees l f = agree-before _ _ (header-agrees l f) (records-agree (listsOfFile f))

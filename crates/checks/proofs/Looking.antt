@@ -1,0 +1,63 @@
+-- What the code looks at in one record is what its tests say.
+use mathlib.Core.Path.{_≡_, refl, sym, ap, _∙_}
+use mathlib.Core.Bool.{Bool, true, false, not, _||_, or-false}
+use mathlib.Core.List.{List, []}
+use Prim.Native.Nat.{ℕ, _%_, _≤_, _<_}
+use native.Mathlib.Nat.{mod-one}
+use native.Mathlib.Omega.{arith}
+use lib.Dec.{leb, ltb, eqb}
+use lib.ListN.{length, getD, List·getD-eq-default}
+use borrow.Author.Tests.{le-leb, lt-leb}
+use Rattle.products.specs.Products.{find, findIn, products, sameCode}
+use Rattle.products.specs.declared.table.Found.{Found}
+use Rattle.products.specs.declared.table.Found.the-variants.{At, Missing}
+use Rattle.dayfile.specs.Limits.{fileLimits, yearLimit}
+use Rattle.dayfile.specs.Records.{markOf, markAt}
+use Rattle.dayfile.specs.declared.records.Mark.{Mark}
+use Rattle.dayfile.specs.declared.records.Correction.{Correction}
+use Rattle.checks.specs.Table.{aboveLimit, listed, listedIn, quoted, quotedIn, tickOf, tickIn}
+use Rattle.checks.specs.Marks.{highMark, offTick}
+use Rattle.checks.specs.Corrections.{badPrice}
+use Rattle.checks.specs.Looks.{markLook, lookBy, correctionLook, tickAt, Ticks}
+use Rattle.checks.specs.declared.marks.MarkLook.{MarkLook}
+use Rattle.checks.specs.declared.corrections.CorrectionLook.{CorrectionLook}
+
+-- ---- a mark, by what the lookup of its code found
+
+abbrev pub lookIn : Mark → Found → MarkLook
+lookIn m (At q) = lookBy q m
+lookIn m Missing = record { code = true; date = true; high = highMark m; off = false; tick = 1 }
+
+pub looked : (m : Mark) → lookIn m (find (m .code)) ≡ markLook m
+unfolding listed quoted tickOf
+looked m = go (find (m .code))
+  where
+    go : (o : Found) → lookIn m o
+        ≡ record {
+          code = not (listedIn o);
+          date = not (quotedIn o (m .month)) || ltb yearLimit (m .year);
+          high = highMark m;
+          off = not (eqb (m .previous % tickIn o) 0) || not (eqb (m .today % tickIn o) 0);
+          tick = tickIn o;
+        }
+    go (At q) = refl
+    go Missing = rw (mod-one (m .previous), mod-one (m .today))
+
+-- ---- a correction, by the ticks of the marks
+
+no-mark : (ms : List Mark) (m : ℕ) → length ms ≤ m → markAt ms m ≡ markOf []
+unfolding markAt
+no-mark ms m h = List·getD-eq-default ms (markOf []) {n = m} h
+
+no-tick : tickOf (markOf [] .code) ≡ 1
+unfolding tickOf find findIn products sameCode
+no-tick = refl
+
+module _ (ms : List Mark) (c : Correction) where
+  -- there is no mark with its index: a price has no tick to be off
+  pub without-mark : length ms ≤ c .mark → {a : Bool} → a ≡ aboveLimit (c .price) → _≡_ {A = CorrectionLook} (record { unnamed = true; price = a }) (correctionLook ms c)
+  without-mark h {a} e = rw (le-leb _ _ h, no-mark ms (c .mark) h, no-tick, mod-one (c .price), ← e, or-false a)
+
+  pub with-mark : {ticks : List ℕ} → Ticks ms ticks → c .mark < length ms → {a o : Bool} → a ≡ aboveLimit (c .price) → o ≡ not (eqb (c .price % getD ticks (c .mark) 0) 0)
+      → _≡_ {A = CorrectionLook} (record { unnamed = false; price = a || o }) (correctionLook ms c)
+  with-mark t h e f = rw (lt-leb _ _ h, e, f, t .ticks .entry (c .mark) h)

@@ -1,0 +1,85 @@
+-- What holds of three lists that passed the checks over their records.
+use mathlib.Core.Path.{_≡_, refl, sym, _∙_}
+use mathlib.Core.Bool.{false, _||_}
+use mathlib.Core.List.{List, List·Memᴰ, List·Memᴰ·head, List·Memᴰ·tail}
+use Prim.Native.Nat.{ℕ, _≤_, _<_}
+use native.Mathlib.Omega.{arith}
+use lib.ListN.{length}
+use lib.IntN.{ℤ, pos, negsuc, negℤ, natAbs}
+use lib.Signed.{ltZ}
+use borrow.Author.Tests.{leb-false, ltb-false}
+use Rattle.numbers.specs.Integers.{isZero}
+use Rattle.numbers.specs.Order.{andThen}
+use Rattle.numbers.specs.Checks.{_before_, decisionOf}
+use Rattle.numbers.specs.declared.deciding.Decision.the-variants.{Unmet}
+use Rattle.numbers.proofs.Truth.{or-left, or-right}
+use Rattle.numbers.proofs.Checks.{both-unmet, decision-before, passed-at}
+use Rattle.dayfile.specs.Limits.{lotsLimit}
+use Rattle.dayfile.specs.Records.{Lists, positionAt}
+use Rattle.checks.specs.Marks.{MarkCheck, MarkCode, MarkDate, MarkLimit, MarkTick, MarkRepeated, markCheck, markChecks}
+use Rattle.checks.specs.Corrections.{CorrectionCheck, CorrectionMark, CorrectionPrice, CorrectionClash, correctionCheck, correctionChecks}
+use Rattle.checks.specs.Positions.{badLots, PositionCheck, PositionMark, PositionLots, positionCheck, positionChecks}
+use Rattle.checks.specs.Judging.{recordChecks}
+
+-- ---- the three parts
+
+module _ (ls : Lists) where
+  pub parts : decisionOf (recordChecks ls) ≡ Unmet
+      → (decisionOf (markChecks (ls .marks)) ≡ Unmet) × (decisionOf (correctionChecks (ls .marks) (ls .corrections)) ≡ Unmet)
+      × (decisionOf (positionChecks (ls .marks) (ls .positions)) ≡ Unmet)
+  parts p =
+      let m = markChecks (ls .marks) in
+      let c = correctionChecks (ls .marks) (ls .corrections) in
+      let q = positionChecks (ls .marks) (ls .positions) in
+      let a = both-unmet (decisionOf m) (decisionOf (c before q)) (sym (decision-before m (c before q)) ∙ p) in
+      let b = both-unmet (decisionOf c) (decisionOf q) (sym (decision-before c q) ∙ a .1) in
+      (a .0, b .0, b .1)
+
+  pub whole : decisionOf (markChecks (ls .marks)) ≡ Unmet → decisionOf (correctionChecks (ls .marks) (ls .corrections)) ≡ Unmet
+      → decisionOf (positionChecks (ls .marks) (ls .positions)) ≡ Unmet → decisionOf (recordChecks ls) ≡ Unmet
+  whole a b c =
+      let m = markChecks (ls .marks) in
+      let d = correctionChecks (ls .marks) (ls .corrections) in
+      let q = positionChecks (ls .marks) (ls .positions) in
+      decision-before m (d before q) ∙ rw a (decision-before d q ∙ rw b c)
+
+-- ---- every check stands in its order
+
+pub of-marks : (ls : Lists) (c : MarkCheck) → List·Memᴰ c (markChecks (ls .marks) .order)
+of-marks ls MarkCode = List·Memᴰ·head refl
+of-marks ls MarkDate = List·Memᴰ·tail (List·Memᴰ·head refl)
+of-marks ls MarkLimit = List·Memᴰ·tail (List·Memᴰ·tail (List·Memᴰ·head refl))
+of-marks ls MarkTick = List·Memᴰ·tail (List·Memᴰ·tail (List·Memᴰ·tail (List·Memᴰ·head refl)))
+of-marks ls MarkRepeated = List·Memᴰ·tail (List·Memᴰ·tail (List·Memᴰ·tail (List·Memᴰ·tail (List·Memᴰ·head refl))))
+
+pub of-corrections : (ls : Lists) (c : CorrectionCheck) → List·Memᴰ c (correctionChecks (ls .marks) (ls .corrections) .order)
+of-corrections ls CorrectionMark = List·Memᴰ·head refl
+of-corrections ls CorrectionPrice = List·Memᴰ·tail (List·Memᴰ·head refl)
+of-corrections ls CorrectionClash = List·Memᴰ·tail (List·Memᴰ·tail (List·Memᴰ·head refl))
+
+pub of-positions : (ls : Lists) (c : PositionCheck) → List·Memᴰ c (positionChecks (ls .marks) (ls .positions) .order)
+of-positions ls PositionMark = List·Memᴰ·head refl
+of-positions ls PositionLots = List·Memᴰ·tail (List·Memᴰ·head refl)
+
+-- ---- so that no record fails it
+
+lots-bound : (z : ℤ) → badLots z ≡ false → natAbs z ≤ lotsLimit
+lots-bound (pos n) e = ltb-false lotsLimit n (or-right (isZero (pos n) || ltZ (pos n) (negℤ (pos lotsLimit))) _ e)
+lots-bound (negsuc n) e =
+    omega (arith, ltb-false 999999 n (or-right (isZero (negsuc n)) _ (or-left (isZero (negsuc n) || ltZ (negsuc n) (negℤ (pos lotsLimit))) _ e)))
+
+module _ (ls : Lists) (passed : decisionOf (recordChecks ls) ≡ Unmet) (i : ℕ) where
+  pub mark-passes : (c : MarkCheck) → i < length (ls .marks) → markCheck (ls .marks) c .test i ≡ false
+  mark-passes c h = passed-at (markChecks (ls .marks)) (parts ls passed .0) (of-marks ls c) h
+
+  pub correction-passes : (c : CorrectionCheck) → i < length (ls .corrections) → correctionCheck (ls .marks) (ls .corrections) c .test i ≡ false
+  correction-passes c h = passed-at (correctionChecks (ls .marks) (ls .corrections)) (parts ls passed .1) (of-corrections ls c) h
+
+  pub position-passes : (c : PositionCheck) → i < length (ls .positions) → positionCheck (ls .marks) (ls .positions) c .test i ≡ false
+  position-passes c h = passed-at (positionChecks (ls .marks) (ls .positions)) (parts ls passed .2) (of-positions ls c) h
+
+  pub mark-in : i < length (ls .positions) → positionAt (ls .positions) i .mark < length (ls .marks)
+  mark-in h = leb-false _ _ (position-passes PositionMark h)
+
+  pub lots-in : i < length (ls .positions) → natAbs (positionAt (ls .positions) i .lots) ≤ lotsLimit
+  lots-in h = lots-bound (positionAt (ls .positions) i .lots) (position-passes PositionLots h)

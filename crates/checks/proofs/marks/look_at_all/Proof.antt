@@ -1,0 +1,104 @@
+use Prim.Native.Nat.{_≤_, _<_, _-_}
+use mathlib.Core.Path.{_≡_, ap, _∙_}
+use native.Mathlib.Omega.{arith}
+use lib.ListN.{length, length-set}
+use Rattle.numbers.specs.Folds.{some, Holds}
+use Rattle.dayfile.specs.Limits.{fileLimits}
+use Rattle.dayfile.specs.Records.{marksIn, markAt}
+use Rattle.checks.specs.Looks.{markLook, anyMark, tickAt}
+use Rattle.checks.specs.declared.marks.MarkLook.{MarkLook}
+use Rattle.numbers.proofs.Chain.{at-end}
+use Rattle.numbers.proofs.Held.{holds-none, holds-more}
+use Rattle.numbers.proofs.Searches.{some-start, some-next}
+use borrow.Author.Needs.{needs}
+use Rattle.checks.proofs.marks.look_at_all.Statement.{statement}
+use Rattle.checks.proofs.marks.look_at_all.Tie as tie
+use Rattle.checks.proofs.marks.look_at_all.Reads as reads
+use Rattle.checks.proofs.marks.look_at_all.Lts as lts
+use Rattle.checks.proofs.marks.any.Reads as any-reads
+use Rattle.checks.proofs.marks.look.Reads as look-reads
+use Rattle.dayfile.proofs.mark_at.Reads as mark-at-reads
+use Rattle.dayfile.proofs.mark_count.Reads as mark-count-reads
+
+abbrev Inv-loop : tie.InvT-loop
+Inv-loop marks ticks₀ n bad₀ i₀ ticks bad i = ((i ≤ n) × (length ticks ≡ fileLimits .marks)) × (bad ≡ some (λ k. anyMark (markLook (markAt (marksIn marks) k))) i) × Holds 0 (tickAt (marksIn marks)) i ticks
+
+abbrev μ-loop : tie.MeasureT-loop
+μ-loop marks ticks₀ n bad₀ i₀ ticks bad i = n - i
+
+-- src/marks.rt:88:9
+mark-count-requires : tie.Need-mark-count-requires Inv-loop μ-loop
+mark-count-requires c κs = search needs
+
+-- src/marks.rt:91:5
+loop-holds : tie.Need-loop-holds Inv-loop μ-loop
+loop-holds c = ((search needs, c .before .before .pre .1), some-start _, holds-none)
+
+-- src/marks.rt:92:22
+mark-at-requires : tie.Need-mark-at-requires Inv-loop μ-loop
+mark-at-requires c κs = search needs
+
+-- src/marks.rt:92:13
+look-requires : tie.Need-look-requires Inv-loop μ-loop
+look-requires c κs = search needs
+
+-- src/marks.rt:93:21
+any-requires : tie.Need-any-requires Inv-loop μ-loop
+any-requires c κs = search needs
+
+-- src/marks.rt:94:9
+mul-ticks : tie.Need-mul-ticks Inv-loop μ-loop
+mul-ticks c = omega (arith, c .before .before .before .loop-test .taken, c .before .before .before .before .before .mark-count .ensures, c .before .before .before .before .before .before .before .pre .0)
+
+-- src/marks.rt:94:9
+element-write-ticks : tie.Need-element-write-ticks Inv-loop μ-loop
+element-write-ticks c = omega (arith, c .before .before .before .loop-test .taken, c .before .before .before .before .before .mark-count .ensures, c .before .before .before .before .before .before .before .pre .0)
+
+-- src/marks.rt:95:9
+add-i : tie.Need-add-i Inv-loop μ-loop
+add-i c = omega arith
+
+-- src/marks.rt:91:5
+loop-less : tie.Need-loop-less Inv-loop μ-loop
+loop-less c = omega arith
+
+-- src/marks.rt:91:5
+loop-again : tie.Need-loop-again Inv-loop μ-loop
+loop-again c =
+    let at = c .before .before .before .before .loop in
+    let ms = marksIn (c .before .before .before .before .before .before .before .args .marks .now) in
+    let l = c .before .look .ensures ∙ ap markLook (c .before .before .mark-at .ensures) in
+    let h : at .i < length (at .ticks) = omega (arith, element-write-ticks c, at .inv .0 .1) in (
+      (omega arith, simp length-set (at .inv .0 .1)),
+      some-next (λ k. anyMark (markLook (markAt ms k))) (at .i) (at .inv .1) (c .any .ensures ∙ ap anyMark l),
+      holds-more h (ap (λ (x : MarkLook). x .tick) l) (at .inv .2),
+    )
+
+-- src/marks.rt:84:1
+returns : tie.Need-returns Inv-loop μ-loop
+returns c =
+    let at = c .before .loop in
+    let s = c .before .before .before .before in
+    let q = c .before .before .mark-count .ensures in
+    let bad = some (λ k. anyMark (markLook (markAt (marksIn (s .args .marks .now)) k))) in (
+      at-end bad (at .inv .1) (at .inv .0 .0) (c .loop-test .left) ∙ ap bad q,
+      record { few = s .pre .0; ticks = record { entry = λ m h. at .inv .2 .entry m (omega (arith, q, h, c .loop-test .left)) } },
+    )
+
+pub look-at-all-spec : {M : Type 1} → statement M
+look-at-all-spec =
+    tie.close
+    (tie.spec
+    Inv-loop
+    μ-loop
+    mark-count-requires
+    loop-holds
+    mark-at-requires
+    look-requires
+    any-requires
+    mul-ticks
+    element-write-ticks
+    add-i
+    loop-less
+    loop-again
+    returns)
