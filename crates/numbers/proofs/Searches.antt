@@ -7,7 +7,7 @@ use native.Mathlib.Nat.{not-suc-le-zero, eq-or-lt-of-le, le-of-suc-le-suc}
 use native.Mathlib.Numerals.{add-one}
 use native.Mathlib.Omega.{arith}
 use native.Mathlib.Decide.{le-ind}
-use Rattle.numbers.specs.Folds.{first, some, orElse, isSome}
+use Rattle.numbers.specs.Folds.{first, some, repeating, orElse, isSome}
 use Rattle.numbers.specs.declared.Found.{Found}
 use Rattle.numbers.specs.declared.Found.the-variants.{At, Nothing}
 use Rattle.numbers.proofs.Chain.{by-two}
@@ -46,6 +46,12 @@ unfolding first
 clear-first t zero h = refl
 clear-first t (suc n) h = rw (clear-first t n (λ k l. h k (omega arith)), h n (omega arith))
 
+-- two tests that agree
+pub first-same : (t u : ℕ → Bool) → ((k : ℕ) → t k ≡ u k) → (n : ℕ) → first t n ≡ first u n
+unfolding first
+first-same t u h zero = refl
+first-same t u h (suc n) = rw (h n, first-same t u h n)
+
 -- one index more
 pub first-next : (t : ℕ → Bool) (i : ℕ) {o r : Found} {b : Bool} → o ≡ first t i → b ≡ t i → r ≡ orElse o (cond b (At i) Nothing) → r ≡ first t (i + 1)
 unfolding first
@@ -79,6 +85,15 @@ pub clear-some : (t : ℕ → Bool) (n : ℕ) → ((k : ℕ) → k < n → t k �
 unfolding some
 clear-some t zero h = refl
 clear-some t (suc n) h = rw (clear-some t n (λ k l. h k (omega arith)), h n (omega arith))
+
+pub some-same : (t u : ℕ → Bool) → ((k : ℕ) → t k ≡ u k) → (n : ℕ) → some t n ≡ some u n
+unfolding some
+some-same t u h zero = refl
+some-same t u h (suc n) = rw (h n, some-same t u h n)
+
+-- the first that makes a pair with an earlier one, where two tests of pairs agree
+pub repeated-same : (p q : ℕ → ℕ → Bool) → ((i j : ℕ) → p i j ≡ q i j) → (n : ℕ) → first (repeating p) n ≡ first (repeating q) n
+repeated-same p q h n = first-same (repeating p) (repeating q) (λ i. some-same (p i) (q i) (h i) i) n
 
 -- what holds at n and below it
 pub extend : {Q : ℕ → Type 0} (n : ℕ) → Q n → ((j : ℕ) → j < n → Q j) → (j : ℕ) → j < suc n → Q j

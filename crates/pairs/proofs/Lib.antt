@@ -1,4 +1,5 @@
 pub mod Least
 pub mod Records
+mod Rooms
 mod Trees
 mod Alone

@@ -1,45 +1,46 @@
 -- The keys of a list's records, and how many of the records are looked at.
 use mathlib.Core.Path.{_≡_, refl, sym, ap, _∙_}
-use mathlib.Core.Bool.{Bool, true, false, cond}
-use mathlib.Core.List.{List, []}
-use Prim.Native.Nat.{ℕ, zero, suc, _+_, _*_, _/_, _≤_, _<_}
-use native.Mathlib.Nat.{mul-div-le, mul-le-mul-left, le-trans}
+use mathlib.Core.List.{List, [], map}
+use Prim.Native.Nat.{ℕ, _*_, _/_, _≤_, _<_}
 use native.Mathlib.Decide.{decLt}
 use native.Mathlib.Omega.{arith}
-use lib.Dec.{ltb}
-use lib.ListN.{length, getD, replicate, length-replicate}
-use borrow.Author.Tests.{ltb-true, ltb-false, le-ltb, lt-ltb}
+use lib.ListN.{length, getD}
+use borrow.Author.Tests.{le-ltb, lt-ltb}
 use Rattle.numbers.specs.Bytes.{u32At, part, recordsOf}
 use Rattle.numbers.proofs.Sections.{records-count, record-here, record-past}
 use Rattle.pairs.specs.Keys.{widthOf, keyOf, keysIn, keyAt, least, most, lookedAt}
-use Rattle.pairs.specs.Walks.{Keyed, Room}
 use Rattle.pairs.specs.declared.keys.Key.{Key}
 use Rattle.pairs.specs.declared.keys.Key.the-variants.{Four, Eight}
-use Rattle.pairs.proofs.Least.{least-second, least-below-first, least-below-second}
+use Rattle.pairs.proofs.Least.{least-second}
 
 no-key : (k : Key) → keyOf k [] ≡ 0
 unfolding u32At
 no-key Four = refl
 no-key Eight = refl
 
-pub width-pos : (k : Key) → 0 < widthOf k
-width-pos Four = omega arith
-width-pos Eight = omega arith
-
--- a whole record ends before the list does
-pub record-ends : (w x i : ℕ) → i < x / w → w * i + w ≤ x
-record-ends w x i h = omega (arith, mul-div-le x w, mul-le-mul-left w h)
-
 module _ (k : Key) (size : ℕ) (s : List ℕ) where
+  -- the key of record i, from its place
   pub key-here : (i : ℕ) → i < length s / size → keyAt k size s i ≡ keyOf k (part (size * i) size s)
   unfolding keyAt
   key-here i h = ap (getD (keysIn k size s) i) (sym (no-key k)) ∙ record-here (keyOf k) size s i h
 
+  -- it is 0 past the end
   pub key-past : (i : ℕ) → length s / size ≤ i → keyAt k size s i ≡ 0
   unfolding keyAt
   key-past i h = ap (getD (keysIn k size s) i) (sym (no-key k)) ∙ record-past (keyOf k) size s i h ∙ no-key k
 
-  -- as the code counts them
+  -- and from a reader of whole records: what g takes from a record that f reads
+  pub key-read : {R : Type 0} (f : List ℕ → R) (g : R → ℕ) → ((r : List ℕ) → keyOf k r ≡ g (f r)) → (i : ℕ)
+      → keyAt k size s i ≡ g (getD (map f (recordsOf size s)) i (f []))
+  key-read f g h i = go (decLt i (length s / size))
+    where
+      go : Dec (i < length s / size) → keyAt k size s i ≡ g (getD (map f (recordsOf size s)) i (f []))
+      go (yes l) = key-here i l ∙ h (part (size * i) size s) ∙ ap g (sym (record-here f size s i l))
+      go (no l) =
+          let past : length s / size ≤ i = omega arith in
+          key-past i past ∙ sym (no-key k) ∙ h [] ∙ ap g (sym (record-past f size s i past))
+
+  -- how many are looked at
   pub looked-none : size < widthOf k → 0 ≡ lookedAt k size s
   unfolding lookedAt
   looked-none h = rw (lt-ltb size (widthOf k) h)
@@ -51,36 +52,3 @@ module _ (k : Key) (size : ℕ) (s : List ℕ) where
   -- a list of at most MOST records is looked at whole
   pub looked-all : widthOf k ≤ size → length s / size ≤ most → lookedAt k size s ≡ length s / size
   looked-all h f = sym (looked-some h (least-second most (length s / size) f))
-
-  -- those that are looked at have keys
-  pub looked-keyed : (n : ℕ) → n ≤ lookedAt k size s → Keyed k size s n
-  unfolding lookedAt
-  looked-keyed n h = go (ltb size (widthOf k)) refl (rw records-count at h)
-    where
-      go : (b : Bool) → ltb size (widthOf k) ≡ b → n ≤ cond b 0 (least most (length s / size)) → Keyed k size s n
-      go true e l = record { few = omega arith; whole = omega arith; wide = λ p. absurd (omega arith) }
-      go false e l =
-          record {
-            few = le-trans l (least-below-first most (length s / size));
-            whole = le-trans l (least-below-second most (length s / size));
-            wide = λ p. ltb-false size (widthOf k) e;
-          }
-
-  -- and so have as many of them as there are places for
-  pub looked-least : {m r : ℕ} → r ≡ least (lookedAt k size s) m → Keyed k size s r × (r ≤ m)
-  looked-least {m} e = (looked-keyed _ (rw e (least-below-first (lookedAt k size s) m)), rw e (least-below-second (lookedAt k size s) m))
-
--- a record less
-pub room-for : {k : Key} {size : ℕ} {s : List ℕ} {roots places n : ℕ} (i : ℕ) → i < n → Room k size s roots places n → Room k size s roots places (i + 1)
-room-for i h r =
-    record {
-      keyed = record { few = omega (arith, r .keyed .few); whole = omega (arith, r .keyed .whole); wide = λ p. r .keyed .wide (omega arith) };
-      rooted = r .rooted;
-      small = r .small;
-      room = omega (arith, r .room);
-    }
-
--- room in places that are all empty
-pub room-in : {k : Key} {size : ℕ} {s : List ℕ} {n : ℕ} (roots places : ℕ) → Keyed k size s n → 0 < roots → roots ≤ 16384 → roots + 2 * n ≤ places
-    → Room k size s roots (length {A = ℕ} (replicate places 0)) n
-room-in roots places h r m l = let z : ℕ = 0 in record { keyed = h; rooted = r; small = m; room = rw (length-replicate places z) l }

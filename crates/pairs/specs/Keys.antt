@@ -10,6 +10,10 @@ use Rattle.numbers.specs.Folds.{last}
 use Rattle.pairs.specs.declared.keys.Key.{Key}
 use Rattle.pairs.specs.declared.keys.Key.the-variants.{Four, Eight}
 
+-- 2^32
+abbrev pub word : ℕ
+word = 4_294_967_296
+
 -- how many bytes a key has
 abbrev pub widthOf : Key → ℕ
 widthOf Four = 4
@@ -18,7 +22,7 @@ widthOf Eight = 8
 -- the key of a record, from its bytes
 abbrev pub keyOf : Key → List ℕ → ℕ
 keyOf Four r = u32At r 0
-keyOf Eight r = u32At r 0 + 4_294_967_296 * u32At r 4
+keyOf Eight r = u32At r 0 + word * u32At r 4
 
 -- the keys of the whole records of a list
 abbrev pub keysIn : Key → ℕ → List ℕ → List ℕ

@@ -4,38 +4,48 @@ use mathlib.Core.Path.{_≡_}
 use mathlib.Core.List.{List}
 use lib.ListN.{length, getD}
 use Rattle.pairs.specs.Trees.{Keys}
-use Rattle.pairs.specs.Keys.{widthOf, keyAt, most}
+use Rattle.pairs.specs.Keys.{word, widthOf, keyAt, most}
 use Rattle.pairs.specs.declared.keys.Key.{Key}
 
--- 32 bits made of the 64 of a key: the low bits of the products of its two halves, added
+-- 32 bits of a key: its lower half times an odd number and its upper half times another, added
 unfoldable pub scattered : ℕ → ℕ
-scattered x = (x % 4_294_967_296 * 2_654_435_761 % 4_294_967_296 + x / 4_294_967_296 * 2_246_822_519 % 4_294_967_296) % 4_294_967_296
+scattered x = (x % word * 2_654_435_761 % word + x / word * 2_246_822_519 % word) % word
 
 -- the highest of them choose one of the roots
 unfoldable pub rootOf : ℕ → ℕ → ℕ
-rootOf roots x = scattered x * roots / 4_294_967_296
+rootOf roots x = scattered x * roots / word
 
--- the number whose bits lead the walk, the lowest first: these 32 bits, and then the upper half of the key
+-- the number whose bits lead the walk, the lowest first: the 32 bits, and then the upper half of the key
 unfoldable pub restOf : ℕ → ℕ
-restOf x = scattered x + 4_294_967_296 * (x / 4_294_967_296)
+restOf x = scattered x + word * (x / word)
 
 -- the tree's keys, and where their walks start
 abbrev pub treeOf : Key → ℕ → List ℕ → ℕ → Keys
 treeOf k size s roots = record { key = keyAt k size s; roots = roots; root = rootOf roots; rest = restOf }
 
--- n of the records that are looked at, whose keys can be read
+-- a tree for at most 32 records has 32 roots, one for at most 512 has 512, and one for more has 16,384
+abbrev pub small : ℕ
+small = 32
+
+abbrev pub middle : ℕ
+middle = 512
+
+abbrev pub mostRoots : ℕ
+mostRoots = 16_384
+
+-- n records whose keys can be read
 pub record Keyed (k : Key) (size : ℕ) (s : List ℕ) (n : ℕ) : Type 0 where
   pub few : n ≤ most
   pub whole : n ≤ length s / size
   pub wide : 0 < n → widthOf k ≤ size
 
--- and room for a tree of them: the roots, and two places below each record
+-- and places for a tree of them: the roots, and two below each record
 pub record Room (k : Key) (size : ℕ) (s : List ℕ) (roots places n : ℕ) : Type 0 where
   pub keyed : Keyed k size s n
   pub rooted : 0 < roots
-  pub small : roots ≤ 16_384
+  pub limited : roots ≤ mostRoots
   pub room : roots + 2 * n ≤ places
 
--- a list of zeros: a tree whose places are all empty
+-- a list of zeros: places that are all empty
 abbrev pub Zeros : List ℕ → Type 0
 Zeros a = (i : ℕ) → getD a i 0 ≡ 0

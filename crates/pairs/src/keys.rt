@@ -15,6 +15,9 @@ pub enum Key {
 // The most records that are looked at.
 pub const MOST: usize = 4_096;
 
+// 2^32.
+pub(crate) const WORD: u64 = 4_294_967_296;
+
 // The u32 at a place.
 fn u32_at(s: &[u8], i: usize) -> u32
     requires { ⌜ i + 4 ≤ length (now s) ⌝ }
@@ -30,7 +33,7 @@ fn key_of(r: &[u8], key: Key) -> u64
 {
     match key {
         Key::Four => u32_at(r, 0) as u64,
-        Key::Eight => (u32_at(r, 0) as u64) + 4_294_967_296 * (u32_at(r, 4) as u64),
+        Key::Eight => (u32_at(r, 0) as u64) + WORD * (u32_at(r, 4) as u64),
     }
 }
 

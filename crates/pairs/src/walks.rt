@@ -1,14 +1,17 @@
-// The last earlier record with the key of a record. The first record of each key stands in a tree, and beside it is kept the last record with
-// this key. The walk of a key starts at a root, and from a record with another key it goes on to one of the two places below that record.
+// The last earlier record with the key of a record. The first record of each key stands in a tree, and beside it is kept the last record
+// with this key. The walk of a key starts at a root, and from a record with another key it goes on to one of the two places below that one.
 //
-// 32 bits choose the root by the highest of them: the sum of the key's lower half, multiplied by an odd number, and of its upper half,
-// multiplied by another, modulo 2^32. These bits, the lowest first, and behind them the upper half's choose the place below. Together
-// they determine the key, since the upper half's product can be subtracted and a product with an odd number can be undone modulo 2^32. So the
-// record that a walk comes to after 64 others has its key: no walk goes past more than 64 records, whatever the keys are. Where the upper
-// half is 0, as of each key of four bytes, the 32 bits alone determine the key, and those that chose the root are the same for every record
-// below it: a walk goes past at most 27 records with 32 roots, 23 with 512, and 18 with 16,384.
+// Of a key 32 bits are made: its lower half times an odd number, plus its upper half times another, modulo 2^32. The highest of them choose
+// the root. Then 64 bits lead the walk, one at each record: the 32, the lowest first, and after them those of the upper half. The 64
+// determine the key: take the upper half's product away, and undo the other, as can be done modulo 2^32 where the factor is odd. So two
+// different keys part after at most 64 records: no walk goes past more, whatever the keys are and however many roots there are.
+//
+// The upper half of a key of four bytes is 0, and the 32 bits determine it. Those that chose the root are the same for all keys that start
+// there, so that two keys differ in one of the others, which lead first: a walk goes past at most 27 records where there are 32 roots, past
+// 23 where there are 512, and past 18 where there are 16,384.
 use crate::keys::Key;
 use crate::keys::MOST;
+use crate::keys::WORD;
 use crate::keys::key_at;
 use crate::keys::looked_at;
 use crate::keys::smaller;
@@ -17,15 +20,16 @@ ghost use mathlib.Core.Path.{_≡_};
 ghost use Prim.Native.Nat.{_+_, _*_, _<_, _≤_};
 ghost use lib.ListN.{length};
 ghost use Rattle.numbers.specs.Folds.{first, repeating, front};
-ghost use Rattle.pairs.specs.Keys.{least, lookedAt, sameKeyIn, earlierIn};
+ghost use Rattle.pairs.specs.Keys.{word, least, lookedAt, sameKeyIn, earlierIn};
 ghost use Rattle.pairs.specs.Trees.{nodeOf, WalkOf, Grown};
-ghost use Rattle.pairs.specs.Walks.{scattered, rootOf, restOf, treeOf, Keyed, Room, Zeros};
+ghost use Rattle.pairs.specs.Walks.{scattered, rootOf, restOf, treeOf, small, middle, mostRoots, Keyed, Room, Zeros};
 
-// A list of few records has a tree of few places: for at most SMALL, at most MIDDLE and at most MOST records.
+// A tree for at most SMALL records has as many roots, and so has one for at most MIDDLE: a short list pays for no long array.
 const SMALL: usize = 32;
 
 const MIDDLE: usize = 512;
 
+// The roots of a tree for more.
 const ROOTS: usize = 16_384;
 
 // The roots, and two places below each record.
@@ -37,26 +41,26 @@ const PLACES: usize = ROOTS + 2 * MOST;
 
 // 32 bits of a key.
 fn scatter(x: u64) -> u64
-    ensures { λ r. ⌜ (r ≡ scattered x) × (r < 4294967296) ⌝ }
+    ensures { λ r. ⌜ (r ≡ scattered x) × (r < word) ⌝ }
 {
-    let low = x % 4_294_967_296 * 2_654_435_761 % 4_294_967_296;
-    let high = x / 4_294_967_296 * 2_246_822_519 % 4_294_967_296;
-    (low + high) % 4_294_967_296
+    let low = x % WORD * 2_654_435_761 % WORD;
+    let high = x / WORD * 2_246_822_519 % WORD;
+    (low + high) % WORD
 }
 
 // The root where the walk of a key starts.
 fn root_of(x: u64, roots: usize) -> usize
-    requires { ⌜ (0 < roots) × (roots ≤ 16384) ⌝ }
+    requires { ⌜ (0 < roots) × (roots ≤ mostRoots) ⌝ }
     ensures { λ r. ⌜ (r ≡ rootOf roots x) × (r < roots) ⌝ }
 {
-    (scatter(x) as usize) * roots / 4_294_967_296
+    (scatter(x) * (roots as u64) / WORD) as usize
 }
 
 // The number whose bits lead it on.
 fn rest_of(x: u64) -> u64
     ensures { λ r. ⌜ r ≡ restOf x ⌝ }
 {
-    scatter(x) + 4_294_967_296 * (x / 4_294_967_296)
+    scatter(x) + WORD * (x / WORD)
 }
 
 // A u16 as an index.
@@ -68,7 +72,8 @@ fn wide(x: u16) -> usize
 
 // The place where the walk of record i ends: it is empty, or holds the first record with the same key.
 fn walk(records: &[u8], size: usize, key: Key, place: &[u16], roots: usize, i: usize) -> usize
-    requires { ⌜ (Grown (treeOf key size (now records) roots) i (now place)) × (Room key size (now records) roots (length (now place)) (i + 1)) ⌝ }
+    requires { ⌜ (Grown (treeOf key size (now records) roots) i (now place))
+        × (Room key size (now records) roots (length (now place)) (i + 1)) ⌝ }
     ensures { λ r. ⌜ (WalkOf (treeOf key size (now (records .entry)) roots) (now (place .entry)) i r) × (r < roots + 2 * i) ⌝ }
 {
     let x = key_at(records, size, key, i);
@@ -95,7 +100,7 @@ fn node(k: usize, i: usize) -> usize
     if k == 0 { i } else { k - 1 }
 }
 
-// The first of n records that has the key of an earlier one. The places are empty.
+// The first of n records that has the key of an earlier one, by a tree whose places are empty.
 fn first_in(
     records: &[u8],
     size: usize,
@@ -119,22 +124,25 @@ fn first_in(
     Found::Nothing
 }
 
+// The same of at most SMALL records, with the places for them.
 fn first_small(records: &[u8], size: usize, key: Key, n: usize) -> Found
-    requires { ⌜ (Keyed key size (now records) n) × (n ≤ 32) ⌝ }
+    requires { ⌜ (Keyed key size (now records) n) × (n ≤ small) ⌝ }
     ensures { λ r. ⌜ r ≡ first (repeating (sameKeyIn key size (now (records .entry)))) n ⌝ }
 {
     let mut place = [0u16; SMALL_PLACES];
     first_in(records, size, key, n, SMALL, &mut place)
 }
 
+// Of at most MIDDLE records.
 fn first_middle(records: &[u8], size: usize, key: Key, n: usize) -> Found
-    requires { ⌜ (Keyed key size (now records) n) × (n ≤ 512) ⌝ }
+    requires { ⌜ (Keyed key size (now records) n) × (n ≤ middle) ⌝ }
     ensures { λ r. ⌜ r ≡ first (repeating (sameKeyIn key size (now (records .entry)))) n ⌝ }
 {
     let mut place = [0u16; MIDDLE_PLACES];
     first_in(records, size, key, n, MIDDLE, &mut place)
 }
 
+// Of as many as are looked at.
 fn first_large(records: &[u8], size: usize, key: Key, n: usize) -> Found
     requires { ⌜ Keyed key size (now records) n ⌝ }
     ensures { λ r. ⌜ r ≡ first (repeating (sameKeyIn key size (now (records .entry)))) n ⌝ }
@@ -158,7 +166,8 @@ pub fn first_repeated(records: &[u8], size: usize, key: Key) -> Found
     }
 }
 
-// For each of n records, one more than the index of the last earlier one with its key, or 0. The places are empty, and no last records known.
+// For each of n records, one more than the index of the last earlier one with its key, or 0, by a tree whose places are empty. Beside each
+// record of the tree, last has one more than the index of the last one with its key.
 fn earlier_in(
     records: &[u8],
     size: usize,
@@ -177,15 +186,17 @@ fn earlier_in(
     while i < n {
         let at = walk(records, size, key, place, roots, i);
         let j = node(wide(place[at]), i);
-        place[at] = (j + 1) as u16;
+        let first = j + 1;
+        place[at] = first as u16;
         found[i] = last[j];
         i += 1;
         last[j] = i as u16;
     }
 }
 
+// The same of at most SMALL records, with the places for them.
 fn earlier_small(records: &[u8], size: usize, key: Key, n: usize, found: &mut [u16])
-    requires { ⌜ (Keyed key size (now records) n) × (n ≤ length (now found)) × (n ≤ 32) ⌝ }
+    requires { ⌜ (Keyed key size (now records) n) × (n ≤ length (now found)) × (n ≤ small) ⌝ }
     ensures { λ _. ⌜ now (found .exit) ≡ front (earlierIn key size (now (records .entry))) (now (found .entry)) n ⌝ }
 {
     let mut place = [0u16; SMALL_PLACES];
@@ -193,8 +204,9 @@ fn earlier_small(records: &[u8], size: usize, key: Key, n: usize, found: &mut [u
     earlier_in(records, size, key, n, SMALL, &mut place, &mut last, found);
 }
 
+// Of at most MIDDLE records.
 fn earlier_middle(records: &[u8], size: usize, key: Key, n: usize, found: &mut [u16])
-    requires { ⌜ (Keyed key size (now records) n) × (n ≤ length (now found)) × (n ≤ 512) ⌝ }
+    requires { ⌜ (Keyed key size (now records) n) × (n ≤ length (now found)) × (n ≤ middle) ⌝ }
     ensures { λ _. ⌜ now (found .exit) ≡ front (earlierIn key size (now (records .entry))) (now (found .entry)) n ⌝ }
 {
     let mut place = [0u16; MIDDLE_PLACES];
@@ -202,6 +214,7 @@ fn earlier_middle(records: &[u8], size: usize, key: Key, n: usize, found: &mut [
     earlier_in(records, size, key, n, MIDDLE, &mut place, &mut last, found);
 }
 
+// Of as many as are looked at.
 fn earlier_large(records: &[u8], size: usize, key: Key, n: usize, found: &mut [u16])
     requires { ⌜ (Keyed key size (now records) n) × (n ≤ length (now found)) ⌝ }
     ensures { λ _. ⌜ now (found .exit) ≡ front (earlierIn key size (now (records .entry))) (now (found .entry)) n ⌝ }
@@ -211,8 +224,8 @@ fn earlier_large(records: &[u8], size: usize, key: Key, n: usize, found: &mut [u
     earlier_in(records, size, key, n, ROOTS, &mut place, &mut last, found);
 }
 
-// For each record, one more than the index of the last earlier one with its key, or 0, in the first places of a lent slice. As many are
-// looked at as by first_repeated, and as the slice has places for.
+// For each record, one more than the index of the last earlier one with its key, or 0, in the first places of a lent slice. Records after
+// the first MOST are not looked at, nor those for which the slice has no place, and none where a record is shorter than its key.
 pub fn earlier(records: &[u8], size: usize, key: Key, found: &mut [u16])
     ensures { λ _. ⌜ now (found .exit)
         ≡ front (earlierIn key size (now (records .entry))) (now (found .entry))

@@ -1,7 +1,8 @@
 use mathlib.Core.Path.{sym, _∙_}
 use native.Mathlib.Nat.{add-sub-cancel-left}
 use native.Mathlib.Omega.{arith}
-use Rattle.pairs.proofs.Records.{record-ends, key-here}
+use Rattle.pairs.proofs.Records.{key-here}
+use Rattle.pairs.proofs.Rooms.{record-ends}
 use borrow.Author.Needs.{needs}
 use Rattle.pairs.proofs.keys.key_at.Statement.{statement}
 use Rattle.pairs.proofs.keys.key_at.Tie as tie

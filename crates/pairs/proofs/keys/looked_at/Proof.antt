@@ -1,5 +1,6 @@
 use native.Mathlib.Omega.{arith}
-use Rattle.pairs.proofs.Records.{width-pos, looked-none, looked-some}
+use Rattle.pairs.proofs.Records.{looked-none, looked-some}
+use Rattle.pairs.proofs.Rooms.{width-pos}
 use borrow.Author.Needs.{needs}
 use Rattle.pairs.proofs.keys.looked_at.Statement.{statement}
 use Rattle.pairs.proofs.keys.looked_at.Tie as tie

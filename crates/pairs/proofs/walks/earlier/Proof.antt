@@ -3,7 +3,7 @@ use lib.ListN.{length}
 use Rattle.numbers.specs.Folds.{front}
 use Rattle.numbers.proofs.Chain.{by-one}
 use Rattle.pairs.specs.Keys.{least, lookedAt}
-use Rattle.pairs.proofs.Records.{looked-least}
+use Rattle.pairs.proofs.Rooms.{looked-least}
 use borrow.Author.Needs.{needs}
 use Rattle.pairs.proofs.walks.earlier.Statement.{statement}
 use Rattle.pairs.proofs.walks.earlier.Tie as tie

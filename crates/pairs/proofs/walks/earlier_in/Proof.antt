@@ -8,7 +8,7 @@ use Rattle.numbers.proofs.Tables.{filled}
 use Rattle.pairs.specs.Keys.{earlierIn}
 use Rattle.pairs.specs.Trees.{nodeOf, Tree}
 use Rattle.pairs.specs.Walks.{treeOf}
-use Rattle.pairs.proofs.Records.{room-for}
+use Rattle.pairs.proofs.Rooms.{room-for}
 use Rattle.pairs.proofs.Trees.{tree-start, tree-more, latest-here}
 use borrow.Author.Needs.{needs}
 use Rattle.pairs.proofs.walks.earlier_in.Statement.{statement}
@@ -29,7 +29,7 @@ walk-requires : tie.Need-walk-requires Inv-loop μ-loop
 walk-requires c κs = let at = c .before .before .loop in (at .inv .1 .grown, rw (at .inv .0 .1) (room-for (at .i) (c .before .loop-test .taken) (c .before .before .before .before .before .before .before .pre .0)))
 
 mul-wide : tie.Need-mul-wide Inv-loop μ-loop
-mul-wide c = omega (arith, c .walk .ensures .1, c .before .before .before .before .before .before .before .before .pre .0 .small, c .before .before .before .before .before .before .before .before .pre .0 .keyed .few, c .before .before .loop-test .taken)
+mul-wide c = omega (arith, c .walk .ensures .1, c .before .before .before .before .before .before .before .before .pre .0 .limited, c .before .before .before .before .before .before .before .before .pre .0 .keyed .few, c .before .before .loop-test .taken)
 
 slice-read-wide : tie.Need-slice-read-wide Inv-loop μ-loop
 slice-read-wide c = omega (arith, c .before .walk .ensures .1, c .before .before .before .before .before .before .before .before .before .pre .0 .room, c .before .before .before .before .loop .inv .0 .1, c .before .before .before .loop-test .taken)
@@ -37,14 +37,14 @@ slice-read-wide c = omega (arith, c .before .walk .ensures .1, c .before .before
 node-requires : tie.Need-node-requires Inv-loop μ-loop
 node-requires c κs = omega (arith, c .wide .ensures, c .before .before .before .before .before .loop .inv .1 .grown .filled (c .before .before .walk .result))
 
-add-place : tie.Need-add-place Inv-loop μ-loop
-add-place c = omega (arith, c .node .ensures .1, c .before .before .before .before .before .before .before .before .before .before .before .pre .0 .keyed .few, c .before .before .before .before .before .loop-test .taken)
+add-first : tie.Need-add-first Inv-loop μ-loop
+add-first c = omega (arith, c .node .ensures .1, c .before .before .before .before .before .before .before .before .before .before .before .pre .0 .keyed .few, c .before .before .before .before .before .loop-test .taken)
 
 cast-place : tie.Need-cast-place Inv-loop μ-loop
 cast-place c = omega (arith, c .node .ensures .1, c .before .before .before .before .before .before .before .before .before .before .before .pre .0 .keyed .few, c .before .before .before .before .before .loop-test .taken)
 
 mul-place : tie.Need-mul-place Inv-loop μ-loop
-mul-place c = omega (arith, c .before .before .before .walk .ensures .1, c .before .before .before .before .before .before .before .before .before .before .before .pre .0 .small, c .before .before .before .before .before .before .before .before .before .before .before .pre .0 .keyed .few, c .before .before .before .before .before .loop-test .taken)
+mul-place c = omega (arith, c .before .before .before .walk .ensures .1, c .before .before .before .before .before .before .before .before .before .before .before .pre .0 .limited, c .before .before .before .before .before .before .before .before .before .before .before .pre .0 .keyed .few, c .before .before .before .before .before .loop-test .taken)
 
 slice-write-place : tie.Need-slice-write-place Inv-loop μ-loop
 slice-write-place c = omega (arith, c .before .before .before .walk .ensures .1, c .before .before .before .before .before .before .before .before .before .before .before .pre .0 .room, c .before .before .before .before .before .before .loop .inv .0 .1, c .before .before .before .before .before .loop-test .taken)
@@ -112,7 +112,7 @@ earlier-in-spec =
     slice-read-wide
     (λ c κs. search needs)
     node-requires
-    add-place
+    add-first
     cast-place
     mul-place
     slice-write-place

@@ -12,7 +12,7 @@ use Rattle.numbers.proofs.Searches.{first-none, first-more, first-here}
 use Rattle.pairs.specs.Keys.{sameKeyIn}
 use Rattle.pairs.specs.Walks.{treeOf}
 use Rattle.pairs.proofs.Alone.{Alone, alone-start, alone-more, alone-finds}
-use Rattle.pairs.proofs.Records.{room-for}
+use Rattle.pairs.proofs.Rooms.{room-for}
 use borrow.Author.Needs.{needs}
 use Rattle.pairs.proofs.walks.first_in.Statement.{statement}
 use Rattle.pairs.proofs.walks.first_in.Tie as tie
@@ -31,7 +31,7 @@ walk-requires : tie.Need-walk-requires Inv-loop μ-loop
 walk-requires c κs = let at = c .before .before .loop in (at .inv .2 .grown, rw (at .inv .1) (room-for (at .i) (c .before .loop-test .taken) (c .before .before .before .before .before .pre .0)))
 
 mul-wide : tie.Need-mul-wide Inv-loop μ-loop
-mul-wide c = omega (arith, c .walk .ensures .1, c .before .before .before .before .before .before .pre .0 .small, c .before .before .before .before .before .before .pre .0 .keyed .few, c .before .before .loop-test .taken)
+mul-wide c = omega (arith, c .walk .ensures .1, c .before .before .before .before .before .before .pre .0 .limited, c .before .before .before .before .before .before .pre .0 .keyed .few, c .before .before .loop-test .taken)
 
 slice-read-wide : tie.Need-slice-read-wide Inv-loop μ-loop
 slice-read-wide c = omega (arith, c .before .walk .ensures .1, c .before .before .before .before .before .before .before .pre .0 .room, c .before .before .before .before .loop .inv .1, c .before .before .before .loop-test .taken)
@@ -60,7 +60,7 @@ cast-place : tie.Need-cast-place Inv-loop μ-loop
 cast-place c = omega (arith, c .before .before .before .before .before .before .before .before .before .pre .0 .keyed .few, c .before .before .before .before .before .loop-test .taken)
 
 mul-place : tie.Need-mul-place Inv-loop μ-loop
-mul-place c = omega (arith, c .before .before .before .walk .ensures .1, c .before .before .before .before .before .before .before .before .before .pre .0 .small, c .before .before .before .before .before .before .before .before .before .pre .0 .keyed .few, c .before .before .before .before .before .loop-test .taken)
+mul-place c = omega (arith, c .before .before .before .walk .ensures .1, c .before .before .before .before .before .before .before .before .before .pre .0 .limited, c .before .before .before .before .before .before .before .before .before .pre .0 .keyed .few, c .before .before .before .before .before .loop-test .taken)
 
 slice-write-place : tie.Need-slice-write-place Inv-loop μ-loop
 slice-write-place c = omega (arith, c .before .before .before .walk .ensures .1, c .before .before .before .before .before .before .before .before .before .pre .0 .room, c .before .before .before .before .before .before .loop .inv .1, c .before .before .before .before .before .loop-test .taken)

@@ -1,7 +1,7 @@
 use native.Mathlib.Omega.{arith}
 use Rattle.numbers.specs.Folds.{first}
 use Rattle.numbers.proofs.Chain.{by-one}
-use Rattle.pairs.proofs.Records.{looked-keyed}
+use Rattle.pairs.proofs.Rooms.{looked-keyed}
 use borrow.Author.Needs.{needs}
 use Rattle.pairs.proofs.walks.first_repeated.Statement.{statement}
 use Rattle.pairs.proofs.walks.first_repeated.Tie as tie

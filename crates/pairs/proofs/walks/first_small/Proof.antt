@@ -1,5 +1,5 @@
 use native.Mathlib.Omega.{arith}
-use Rattle.pairs.proofs.Records.{room-in}
+use Rattle.pairs.proofs.Rooms.{room-in}
 use Rattle.pairs.proofs.Trees.{zeros}
 use borrow.Author.Needs.{needs}
 use Rattle.pairs.proofs.walks.first_small.Statement.{statement}

@@ -24,10 +24,10 @@ key-at-requires : tie.Need-key-at-requires Inv-loop μ-loop
 key-at-requires c κs = let room = c .before .before .pre .1 in (room .keyed .wide (omega arith), omega (arith, room .keyed .whole))
 
 root-of-requires : tie.Need-root-of-requires Inv-loop μ-loop
-root-of-requires c κs = (c .before .before .before .before .pre .1 .rooted, c .before .before .before .before .pre .1 .small)
+root-of-requires c κs = (c .before .before .before .before .pre .1 .rooted, c .before .before .before .before .pre .1 .limited)
 
 mul-wide : tie.Need-mul-wide Inv-loop μ-loop
-mul-wide c = omega (arith, c .root-of .ensures .1, c .before .before .before .before .before .pre .1 .small)
+mul-wide c = omega (arith, c .root-of .ensures .1, c .before .before .before .before .before .pre .1 .limited)
 
 shared-slice-read-wide : tie.Need-shared-slice-read-wide Inv-loop μ-loop
 shared-slice-read-wide c = omega (arith, c .before .root-of .ensures .1, c .before .before .before .before .before .before .pre .1 .room)
@@ -59,13 +59,13 @@ mul-at : tie.Need-mul-at Inv-loop μ-loop
 mul-at c = omega (arith, c .before .before .before .before .before .before .before .before .before .before .before .pre .1 .keyed .few, c .before .before .before .loop .inv .2)
 
 add-at : tie.Need-add-at Inv-loop μ-loop
-add-at c = omega (arith, c .before .before .before .before .before .before .before .before .before .before .before .pre .1 .keyed .few, c .before .before .before .before .before .before .before .before .before .before .before .pre .1 .small, c .before .before .before .loop .inv .2)
+add-at c = omega (arith, c .before .before .before .before .before .before .before .before .before .before .before .pre .1 .keyed .few, c .before .before .before .before .before .before .before .before .before .before .before .pre .1 .limited, c .before .before .before .loop .inv .2)
 
 add-at-2 : tie.Need-add-at-2 Inv-loop μ-loop
-add-at-2 c = omega (arith, c .before .before .before .before .before .before .before .before .before .before .before .pre .1 .keyed .few, c .before .before .before .before .before .before .before .before .before .before .before .pre .1 .small, c .before .before .before .loop .inv .2)
+add-at-2 c = omega (arith, c .before .before .before .before .before .before .before .before .before .before .before .pre .1 .keyed .few, c .before .before .before .before .before .before .before .before .before .before .before .pre .1 .limited, c .before .before .before .loop .inv .2)
 
 mul-wide-2 : tie.Need-mul-wide-2 Inv-loop μ-loop
-mul-wide-2 c = omega (arith, c .before .before .before .before .before .before .before .before .before .before .before .pre .1 .keyed .few, c .before .before .before .before .before .before .before .before .before .before .before .pre .1 .small, c .before .before .before .loop .inv .2)
+mul-wide-2 c = omega (arith, c .before .before .before .before .before .before .before .before .before .before .before .pre .1 .keyed .few, c .before .before .before .before .before .before .before .before .before .before .before .pre .1 .limited, c .before .before .before .loop .inv .2)
 
 shared-slice-read-wide-2 : tie.Need-shared-slice-read-wide-2 Inv-loop μ-loop
 shared-slice-read-wide-2 c = omega (arith, c .before .before .before .before .before .before .before .before .before .before .before .before .pre .1 .room, c .before .before .before .before .loop .inv .2, c .before .before .before .loop-test .taken)
