@@ -28,53 +28,8 @@ loop-holds c = let p = c .before .before .before .before .pre in ((omega arith, 
 walk-requires : tie.Need-walk-requires Inv-loop μ-loop
 walk-requires c κs = let at = c .before .before .loop in (at .inv .1 .grown, rw (at .inv .0 .1) (room-for (at .i) (c .before .loop-test .taken) (c .before .before .before .before .before .before .before .pre .0)))
 
-mul-wide : tie.Need-mul-wide Inv-loop μ-loop
-mul-wide c = omega (arith, c .walk .ensures .1, c .before .before .before .before .before .before .before .before .pre .0 .limited, c .before .before .before .before .before .before .before .before .pre .0 .keyed .few, c .before .before .loop-test .taken)
-
-slice-read-wide : tie.Need-slice-read-wide Inv-loop μ-loop
-slice-read-wide c = omega (arith, c .before .walk .ensures .1, c .before .before .before .before .before .before .before .before .before .pre .0 .room, c .before .before .before .before .loop .inv .0 .1, c .before .before .before .loop-test .taken)
-
 node-requires : tie.Need-node-requires Inv-loop μ-loop
 node-requires c κs = omega (arith, c .wide .ensures, c .before .before .before .before .before .loop .inv .1 .grown .filled (c .before .before .walk .result))
-
-add-first : tie.Need-add-first Inv-loop μ-loop
-add-first c = omega (arith, c .node .ensures .1, c .before .before .before .before .before .before .before .before .before .before .before .pre .0 .keyed .few, c .before .before .before .before .before .loop-test .taken)
-
-cast-place : tie.Need-cast-place Inv-loop μ-loop
-cast-place c = omega (arith, c .node .ensures .1, c .before .before .before .before .before .before .before .before .before .before .before .pre .0 .keyed .few, c .before .before .before .before .before .loop-test .taken)
-
-mul-place : tie.Need-mul-place Inv-loop μ-loop
-mul-place c = omega (arith, c .before .before .before .walk .ensures .1, c .before .before .before .before .before .before .before .before .before .before .before .pre .0 .limited, c .before .before .before .before .before .before .before .before .before .before .before .pre .0 .keyed .few, c .before .before .before .before .before .loop-test .taken)
-
-slice-write-place : tie.Need-slice-write-place Inv-loop μ-loop
-slice-write-place c = omega (arith, c .before .before .before .walk .ensures .1, c .before .before .before .before .before .before .before .before .before .before .before .pre .0 .room, c .before .before .before .before .before .before .loop .inv .0 .1, c .before .before .before .before .before .loop-test .taken)
-
-mul-found : tie.Need-mul-found Inv-loop μ-loop
-mul-found c = omega (arith, c .node .ensures .1, c .before .before .before .before .before .before .before .before .before .before .before .pre .0 .keyed .few, c .before .before .before .before .before .loop-test .taken)
-
-slice-read-found : tie.Need-slice-read-found Inv-loop μ-loop
-slice-read-found c = omega (arith, c .before .node .ensures .1, c .before .before .before .before .before .before .before .before .before .before .before .before .pre .3, c .before .before .before .before .before .before .before .loop .inv .0 .2, c .before .before .before .before .before .before .loop-test .taken)
-
-mul-found-2 : tie.Need-mul-found-2 Inv-loop μ-loop
-mul-found-2 c = omega (arith, c .before .before .before .before .before .before .before .before .before .before .before .before .pre .0 .keyed .few, c .before .before .before .before .before .before .loop-test .taken)
-
-slice-write-found : tie.Need-slice-write-found Inv-loop μ-loop
-slice-write-found c = omega (arith, c .before .before .before .before .before .before .before .before .before .before .before .before .pre .4, c .before .before .before .before .before .before .before .loop .inv .0 .3, c .before .before .before .before .before .before .loop-test .taken)
-
-add-i : tie.Need-add-i Inv-loop μ-loop
-add-i c = omega arith
-
-cast-last : tie.Need-cast-last Inv-loop μ-loop
-cast-last c = omega (arith, c .before .before .before .before .before .before .before .before .before .before .before .before .pre .0 .keyed .few, c .before .before .before .before .before .before .loop-test .taken)
-
-mul-last : tie.Need-mul-last Inv-loop μ-loop
-mul-last c = omega (arith, c .before .node .ensures .1, c .before .before .before .before .before .before .before .before .before .before .before .before .pre .0 .keyed .few, c .before .before .before .before .before .before .loop-test .taken)
-
-slice-write-last : tie.Need-slice-write-last Inv-loop μ-loop
-slice-write-last c = omega (arith, c .before .node .ensures .1, c .before .before .before .before .before .before .before .before .before .before .before .before .pre .3, c .before .before .before .before .before .before .before .loop .inv .0 .2, c .before .before .before .before .before .before .loop-test .taken)
-
-loop-less : tie.Need-loop-less Inv-loop μ-loop
-loop-less c = omega arith
 
 loop-again : tie.Need-loop-again Inv-loop μ-loop
 loop-again c =
@@ -108,23 +63,23 @@ earlier-in-spec =
     μ-loop
     loop-holds
     walk-requires
-    mul-wide
-    slice-read-wide
+    (λ c. search needs)
+    (λ c. search needs)
     (λ c κs. search needs)
     node-requires
-    add-first
-    cast-place
-    mul-place
-    slice-write-place
-    mul-found
-    slice-read-found
-    mul-found-2
-    slice-write-found
-    add-i
-    cast-last
-    mul-last
-    slice-write-last
-    loop-less
+    (λ c. search needs)
+    (λ c. search needs)
+    (λ c. search needs)
+    (λ c. search needs)
+    (λ c. search needs)
+    (λ c. search needs)
+    (λ c. search needs)
+    (λ c. search needs)
+    (λ c. search needs)
+    (λ c. search needs)
+    (λ c. search needs)
+    (λ c. search needs)
+    (λ c. search needs)
     loop-again
     same-length
     same-length-2

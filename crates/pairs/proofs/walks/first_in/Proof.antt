@@ -30,12 +30,6 @@ loop-holds c = (omega arith, refl, alone-start (c .before .before .pre .1), firs
 walk-requires : tie.Need-walk-requires Inv-loop μ-loop
 walk-requires c κs = let at = c .before .before .loop in (at .inv .2 .grown, rw (at .inv .1) (room-for (at .i) (c .before .loop-test .taken) (c .before .before .before .before .before .pre .0)))
 
-mul-wide : tie.Need-mul-wide Inv-loop μ-loop
-mul-wide c = omega (arith, c .walk .ensures .1, c .before .before .before .before .before .before .pre .0 .limited, c .before .before .before .before .before .before .pre .0 .keyed .few, c .before .before .loop-test .taken)
-
-slice-read-wide : tie.Need-slice-read-wide Inv-loop μ-loop
-slice-read-wide c = omega (arith, c .before .walk .ensures .1, c .before .before .before .before .before .before .before .pre .0 .room, c .before .before .before .before .loop .inv .1, c .before .before .before .loop-test .taken)
-
 -- a place that is not empty is a pair
 module _ (c : tie.After-wide Inv-loop μ-loop) where
   abbrev held : ℕ
@@ -52,21 +46,6 @@ returns c =
     let at = c .before .before .before .before .before .before .loop in
     let full : held (c .before) ≡ 0 → ⊥ = λ z. omega (arith, c .if1 .taken, c .before .wide .ensures, z) in
     sym (first-here _ _ (at .i) (c .before .before .before .before .before .loop-test .taken) (at .inv .3) (pair (c .before)) (ap not (ne-eqb (held (c .before)) 0 full)))
-
-add-i : tie.Need-add-i Inv-loop μ-loop
-add-i c = omega arith
-
-cast-place : tie.Need-cast-place Inv-loop μ-loop
-cast-place c = omega (arith, c .before .before .before .before .before .before .before .before .before .pre .0 .keyed .few, c .before .before .before .before .before .loop-test .taken)
-
-mul-place : tie.Need-mul-place Inv-loop μ-loop
-mul-place c = omega (arith, c .before .before .before .walk .ensures .1, c .before .before .before .before .before .before .before .before .before .pre .0 .limited, c .before .before .before .before .before .before .before .before .before .pre .0 .keyed .few, c .before .before .before .before .before .loop-test .taken)
-
-slice-write-place : tie.Need-slice-write-place Inv-loop μ-loop
-slice-write-place c = omega (arith, c .before .before .before .walk .ensures .1, c .before .before .before .before .before .before .before .before .before .pre .0 .room, c .before .before .before .before .before .before .loop .inv .1, c .before .before .before .before .before .loop-test .taken)
-
-loop-less : tie.Need-loop-less Inv-loop μ-loop
-loop-less c = omega arith
 
 loop-again : tie.Need-loop-again Inv-loop μ-loop
 loop-again c =
@@ -95,16 +74,16 @@ first-in-spec =
     μ-loop
     loop-holds
     walk-requires
-    mul-wide
-    slice-read-wide
+    (λ c. search needs)
+    (λ c. search needs)
     (λ c κs. search needs)
     same-length
     returns
-    add-i
-    cast-place
-    mul-place
-    slice-write-place
-    loop-less
+    (λ c. search needs)
+    (λ c. search needs)
+    (λ c. search needs)
+    (λ c. search needs)
+    (λ c. search needs)
     loop-again
     same-length-2
     returns-2)

@@ -26,12 +26,6 @@ key-at-requires c κs = let room = c .before .before .pre .1 in (room .keyed .wi
 root-of-requires : tie.Need-root-of-requires Inv-loop μ-loop
 root-of-requires c κs = (c .before .before .before .before .pre .1 .rooted, c .before .before .before .before .pre .1 .limited)
 
-mul-wide : tie.Need-mul-wide Inv-loop μ-loop
-mul-wide c = omega (arith, c .root-of .ensures .1, c .before .before .before .before .before .pre .1 .limited)
-
-shared-slice-read-wide : tie.Need-shared-slice-read-wide Inv-loop μ-loop
-shared-slice-read-wide c = omega (arith, c .before .root-of .ensures .1, c .before .before .before .before .before .before .pre .1 .room)
-
 loop-holds : tie.Need-loop-holds Inv-loop μ-loop
 loop-holds c =
     let s = c .before .before .before .before .before .before .before in
@@ -42,9 +36,6 @@ loop-holds c =
       omega (arith, c .before .before .root-of .ensures .1),
     )
 
-sub-j : tie.Need-sub-j Inv-loop μ-loop
-sub-j c = omega arith
-
 key-at-requires-2 : tie.Need-key-at-requires-2 Inv-loop μ-loop
 key-at-requires-2 c κs = let room = c .before .before .before .before .before .before .before .before .before .pre .1 in (room .keyed .wide (omega arith), omega (arith, room .keyed .whole, c .before .loop .inv .2, c .loop-test .taken))
 
@@ -54,21 +45,6 @@ returns c =
     let at = c .before .before .before .loop in
     let e : getD (s .args .place .now) (at .at) 0 ≡ suc (at .k - 1) = omega (arith, at .inv .1, c .before .before .loop-test .taken) in
     (at .inv .0 .onward (here (same e (sym (c .before .key-at2 .ensures) ∙ c .if1 .taken ∙ c .before .before .before .before .before .before .before .before .key-at .ensures))), at .inv .3)
-
-mul-at : tie.Need-mul-at Inv-loop μ-loop
-mul-at c = omega (arith, c .before .before .before .before .before .before .before .before .before .before .before .pre .1 .keyed .few, c .before .before .before .loop .inv .2)
-
-add-at : tie.Need-add-at Inv-loop μ-loop
-add-at c = omega (arith, c .before .before .before .before .before .before .before .before .before .before .before .pre .1 .keyed .few, c .before .before .before .before .before .before .before .before .before .before .before .pre .1 .limited, c .before .before .before .loop .inv .2)
-
-add-at-2 : tie.Need-add-at-2 Inv-loop μ-loop
-add-at-2 c = omega (arith, c .before .before .before .before .before .before .before .before .before .before .before .pre .1 .keyed .few, c .before .before .before .before .before .before .before .before .before .before .before .pre .1 .limited, c .before .before .before .loop .inv .2)
-
-mul-wide-2 : tie.Need-mul-wide-2 Inv-loop μ-loop
-mul-wide-2 c = omega (arith, c .before .before .before .before .before .before .before .before .before .before .before .pre .1 .keyed .few, c .before .before .before .before .before .before .before .before .before .before .before .pre .1 .limited, c .before .before .before .loop .inv .2)
-
-shared-slice-read-wide-2 : tie.Need-shared-slice-read-wide-2 Inv-loop μ-loop
-shared-slice-read-wide-2 c = omega (arith, c .before .before .before .before .before .before .before .before .before .before .before .before .pre .1 .room, c .before .before .before .before .loop .inv .2, c .before .before .before .loop-test .taken)
 
 loop-less : tie.Need-loop-less Inv-loop μ-loop
 loop-less c =
@@ -102,18 +78,18 @@ walk-spec =
     key-at-requires
     (λ c κs. search needs)
     root-of-requires
-    mul-wide
-    shared-slice-read-wide
+    (λ c. search needs)
+    (λ c. search needs)
     (λ c κs. search needs)
     loop-holds
-    sub-j
+    (λ c. search needs)
     key-at-requires-2
     returns
-    mul-at
-    add-at
-    add-at-2
-    mul-wide-2
-    shared-slice-read-wide-2
+    (λ c. search needs)
+    (λ c. search needs)
+    (λ c. search needs)
+    (λ c. search needs)
+    (λ c. search needs)
     (λ c κs. search needs)
     loop-less
     loop-again
