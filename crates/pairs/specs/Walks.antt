@@ -23,15 +23,12 @@ restOf x = scattered x + word * (x / word)
 abbrev pub treeOf : Key → ℕ → List ℕ → ℕ → Keys
 treeOf k size s roots = record { key = keyAt k size s; roots = roots; root = rootOf roots; rest = restOf }
 
--- a tree for at most 32 records has 32 roots, one for at most 512 has 512, and one for more has 16,384
+-- the code has a tree for at most 32 records, one for at most 512, and one for the most that are looked at
 abbrev pub small : ℕ
 small = 32
 
 abbrev pub middle : ℕ
 middle = 512
-
-abbrev pub mostRoots : ℕ
-mostRoots = 16_384
 
 -- n records whose keys can be read
 pub record Keyed (k : Key) (size : ℕ) (s : List ℕ) (n : ℕ) : Type 0 where
@@ -43,7 +40,7 @@ pub record Keyed (k : Key) (size : ℕ) (s : List ℕ) (n : ℕ) : Type 0 where
 pub record Room (k : Key) (size : ℕ) (s : List ℕ) (roots places n : ℕ) : Type 0 where
   pub keyed : Keyed k size s n
   pub rooted : 0 < roots
-  pub limited : roots ≤ mostRoots
+  pub limited : roots ≤ most
   pub room : roots + 2 * n ≤ places
 
 -- a list of zeros: places that are all empty

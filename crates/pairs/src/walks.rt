@@ -8,7 +8,7 @@
 //
 // The upper half of a key of four bytes is 0, and the 32 bits determine it. Those that chose the root are the same for all keys that start
 // there, so that two keys differ in one of the others, which lead first: a walk goes past at most 27 records where there are 32 roots, past
-// 23 where there are 512, and past 18 where there are 16,384.
+// 23 where there are 512, and past 20 where there are 4,096.
 use crate::keys::Key;
 use crate::keys::MOST;
 use crate::keys::WORD;
@@ -20,24 +20,21 @@ ghost use mathlib.Core.Path.{_≡_};
 ghost use Prim.Native.Nat.{_+_, _*_, _<_, _≤_};
 ghost use lib.ListN.{length};
 ghost use Rattle.numbers.specs.Folds.{first, repeating, front};
-ghost use Rattle.pairs.specs.Keys.{word, least, lookedAt, sameKeyIn, earlierIn};
+ghost use Rattle.pairs.specs.Keys.{word, most, least, lookedAt, sameKeyIn, earlierIn};
 ghost use Rattle.pairs.specs.Trees.{nodeOf, WalkOf, Grown};
-ghost use Rattle.pairs.specs.Walks.{scattered, rootOf, restOf, treeOf, small, middle, mostRoots, Keyed, Room, Zeros};
+ghost use Rattle.pairs.specs.Walks.{scattered, rootOf, restOf, treeOf, small, middle, Keyed, Room, Zeros};
 
-// A tree for at most SMALL records has as many roots, and so has one for at most MIDDLE: a short list pays for no long array.
+// A tree for at most SMALL, at most MIDDLE or at most MOST records: a short list pays for no long array.
 const SMALL: usize = 32;
 
 const MIDDLE: usize = 512;
 
-// The roots of a tree for more.
-const ROOTS: usize = 16_384;
+// As many roots, and two places below each record.
+const SMALL_PLACES: usize = 3 * SMALL;
 
-// The roots, and two places below each record.
-const SMALL_PLACES: usize = SMALL + 2 * SMALL;
+const MIDDLE_PLACES: usize = 3 * MIDDLE;
 
-const MIDDLE_PLACES: usize = MIDDLE + 2 * MIDDLE;
-
-const PLACES: usize = ROOTS + 2 * MOST;
+const MOST_PLACES: usize = 3 * MOST;
 
 // 32 bits of a key.
 fn scatter(x: u64) -> u64
@@ -50,7 +47,7 @@ fn scatter(x: u64) -> u64
 
 // The root where the walk of a key starts.
 fn root_of(x: u64, roots: usize) -> usize
-    requires { ⌜ (0 < roots) × (roots ≤ mostRoots) ⌝ }
+    requires { ⌜ (0 < roots) × (roots ≤ most) ⌝ }
     ensures { λ r. ⌜ (r ≡ rootOf roots x) × (r < roots) ⌝ }
 {
     (scatter(x) * (roots as u64) / WORD) as usize
@@ -147,8 +144,8 @@ fn first_large(records: &[u8], size: usize, key: Key, n: usize) -> Found
     requires { ⌜ Keyed key size (now records) n ⌝ }
     ensures { λ r. ⌜ r ≡ first (repeating (sameKeyIn key size (now (records .entry)))) n ⌝ }
 {
-    let mut place = [0u16; PLACES];
-    first_in(records, size, key, n, ROOTS, &mut place)
+    let mut place = [0u16; MOST_PLACES];
+    first_in(records, size, key, n, MOST, &mut place)
 }
 
 // The first record that has the key of an earlier one. Records after the first MOST are not looked at, and none where a record is shorter
@@ -219,9 +216,9 @@ fn earlier_large(records: &[u8], size: usize, key: Key, n: usize, found: &mut [u
     requires { ⌜ (Keyed key size (now records) n) × (n ≤ length (now found)) ⌝ }
     ensures { λ _. ⌜ now (found .exit) ≡ front (earlierIn key size (now (records .entry))) (now (found .entry)) n ⌝ }
 {
-    let mut place = [0u16; PLACES];
+    let mut place = [0u16; MOST_PLACES];
     let mut last = [0u16; MOST];
-    earlier_in(records, size, key, n, ROOTS, &mut place, &mut last, found);
+    earlier_in(records, size, key, n, MOST, &mut place, &mut last, found);
 }
 
 // For each record, one more than the index of the last earlier one with its key, or 0, in the first places of a lent slice. Records after

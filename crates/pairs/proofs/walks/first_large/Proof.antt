@@ -6,7 +6,7 @@ use Rattle.pairs.proofs.walks.first_large.Statement.{statement}
 use Rattle.pairs.proofs.walks.first_large.Tie as tie
 
 first-in-requires : tie.Need-first-in-requires
-first-in-requires c κs = (room-in 16384 24576 (c .before .before .pre) (omega arith) (omega arith) (omega (arith, c .before .before .pre .few)), zeros 24576)
+first-in-requires c κs = (room-in 4096 12288 (c .before .before .pre) (omega arith) (omega arith) (omega (arith, c .before .before .pre .few)), zeros 12288)
 
 pub first-large-spec : {M : Type 1} → statement M
 first-large-spec = tie.close
