@@ -12,6 +12,7 @@ use lib.ListN.{length}
 use lib.Signed.{ltZ, _<ℤ_}
 use Rattle.numbers.specs.Integers.{isZero}
 use Rattle.numbers.proofs.Truth.{Tells, not-both, tells-as, tells-or, tells-and, tells-not, tells-lt, tells-le, tells-eq, tells-less, tells-divides, tells-some, or-three, or-three-back}
+use Rattle.numbers.specs.Checks.{wholly, _before_}
 use Rattle.numbers.proofs.Checks.{Agree, agree-wholly, agree-before}
 use Rattle.products.specs.Products.{priceLimit, find, monthsOf, Unlisted}
 use Rattle.products.specs.declared.table.Code.{Code}
@@ -22,6 +23,7 @@ use Rattle.products.proofs.Months.{month-exactly}
 use Rattle.dayfile.specs.Limits.{Limits, fileLimits, yearLimit, lotsLimit}
 use Rattle.dayfile.specs.Records.{Lists, markAt, correctionAt, positionAt}
 use Rattle.dayfile.specs.Layout.{listsOfFile}
+use Rattle.dayfile.specs.Opening.{headerChecks}
 use Rattle.dayfile.specs.declared.records.Mark.{Mark}
 use Rattle.dayfile.specs.declared.records.Correction.{Correction}
 use Rattle.dayfile.specs.declared.records.Position.{Position}
@@ -117,20 +119,27 @@ many : (a m b n : ℕ) → Tells (ltb a m || ltb b n) ((a < m) ⊎ (b < n))
 many a m b n = tells-or (ltb a m) (ltb b n) (tells-lt a m) (tells-lt b n)
 
 pub marks-alone-agree : (ms : List Mark) → Agree (marksAlone ms)
-marks-alone-agree ms = agree-before _ _ (agree-wholly (manyMarks ms) (λ i. tells-lt (fileLimits .marks) (length ms))) (marks-agree ms)
+marks-alone-agree ms =
+    agree-before (wholly (manyMarks ms)) (markChecks ms) (agree-wholly (manyMarks ms) (λ i. tells-lt (fileLimits .marks) (length ms))) (marks-agree ms)
 
 pub corrections-alone-agree : (ms : List Mark) (cs : List Correction) → Agree (correctionsAlone ms cs)
 corrections-alone-agree ms cs =
-    agree-before _ _ (agree-wholly (manyCorrections ms cs) (λ i. many (fileLimits .marks) (length ms) (fileLimits .corrections) (length cs))) (corrections-agree ms cs)
+    agree-before (wholly (manyCorrections ms cs)) (correctionChecks ms cs)
+    (agree-wholly (manyCorrections ms cs) (λ i. many (fileLimits .marks) (length ms) (fileLimits .corrections) (length cs))) (corrections-agree ms cs)
 
 pub positions-alone-agree : (ms : List Mark) (ps : List Position) → Agree (positionsAlone ms ps)
 positions-alone-agree ms ps =
-    agree-before _ _ (agree-wholly (manyPositions ms ps) (λ i. many (fileLimits .marks) (length ms) (fileLimits .positions) (length ps))) (positions-agree ms ps)
+    agree-before (wholly (manyPositions ms ps)) (positionChecks ms ps)
+    (agree-wholly (manyPositions ms ps) (λ i. many (fileLimits .marks) (length ms) (fileLimits .positions) (length ps))) (positions-agree ms ps)
 
 -- ---- three lists, and a file
 
 pub records-agree : (ls : Lists) → Agree (recordChecks ls)
-records-agree ls = agree-before _ _ (marks-agree (ls .marks)) (agree-before _ _ (corrections-agree (ls .marks) (ls .corrections)) (positions-agree (ls .marks) (ls .positions)))
+records-agree ls =
+    let c = correctionChecks (ls .marks) (ls .corrections) in
+    let p = positionChecks (ls .marks) (ls .positions) in
+    agree-before (markChecks (ls .marks)) (c before p) (marks-agree (ls .marks))
+    (agree-before c p (corrections-agree (ls .marks) (ls .corrections)) (positions-agree (ls .marks) (ls .positions)))
 
 pub file-agrees : (l : Limits) (f : List ℕ) → Agree (fileChecks l f)
-file-agrees l f = agree-before _ _ (header-agrees l f) (records-agree (listsOfFile f))
+file-agrees l f = agree-before (headerChecks l f) (recordChecks (listsOfFile f)) (header-agrees l f) (records-agree (listsOfFile f))

@@ -20,11 +20,12 @@ use Rattle.dayfile.specs.declared.records.Mark.{Mark}
 use Rattle.dayfile.specs.declared.records.Correction.{Correction}
 use Rattle.dayfile.specs.declared.records.Position.{Position}
 use Rattle.checks.specs.Marks.{badCode, badDate, highMark, offMark, contractPair, MarkCheck, MarkCode, MarkDate, MarkLimit, MarkTick, MarkRepeated, markChecks}
-use Rattle.checks.specs.Corrections.{badPrice, clashPair, CorrectionCheck, CorrectionMark, CorrectionPrice, CorrectionClash, correctionChecks}
+use Rattle.checks.specs.Corrections.{badPrice, clashPair, CorrectionCheck, CorrectionMark, CorrectionPrice, CorrectionClash, correctionChecks, manyCorrections, correctedOf, resentOf}
 use Rattle.checks.specs.Positions.{badLots, PositionCheck, PositionMark, PositionLots, positionChecks}
 use Rattle.checks.specs.Looks.{markLook, correctionLook, positionLook, anyMark, anyCorrection, anyPosition, markFindings, correctionFindings, positionFindings, withMark, withCorrection, withPosition, markDecision, correctionDecision, positionDecision}
 use Rattle.checks.specs.declared.marks.MarkLook.{MarkLook}
 use Rattle.checks.specs.declared.marks.MarkFindings.{MarkFindings}
+use Rattle.checks.specs.declared.corrections.Corrected.{Corrected}
 use Rattle.checks.specs.declared.corrections.CorrectionLook.{CorrectionLook}
 use Rattle.checks.specs.declared.corrections.CorrectionFindings.{CorrectionFindings}
 use Rattle.checks.specs.declared.positions.PositionLook.{PositionLook}
@@ -127,3 +128,15 @@ module _ (c : Check) (cs : Checks) where
 
   pub not-many : c .test 0 ≡ false → {d : Decision} → d ≡ decisionOf cs → d ≡ decisionOf (wholly c before cs)
   not-many p e = e ∙ sym (decision-before (wholly c) cs ∙ rw (decision-wholly c, p))
+
+module _ (ms : List Mark) (cs : List Correction) where
+  corrected-by : {d e : Decision} {n m : ℕ} → d ≡ e → n ≡ m → _≡_ {A = Corrected} (record { decision = d; resent = n }) (record { decision = e; resent = m })
+  corrected-by p q = cc
+
+  pub too-many-corrections : manyCorrections ms cs .test 0 ≡ true → _≡_ {A = Corrected} (record { decision = Met 2 0; resent = 0 }) (correctedOf ms cs)
+  unfolding correctedOf
+  too-many-corrections p = corrected-by (too-many (manyCorrections ms cs) (correctionChecks ms cs) p) (rw p)
+
+  pub not-many-corrections : manyCorrections ms cs .test 0 ≡ false → {r : Corrected} → r .decision ≡ decisionOf (correctionChecks ms cs) → r .resent ≡ resentOf cs → r ≡ correctedOf ms cs
+  unfolding correctedOf
+  not-many-corrections p d e = corrected-by (not-many (manyCorrections ms cs) (correctionChecks ms cs) p d) (rw p e)

@@ -6,3 +6,4 @@ mod Looking
 mod LastNumbers
 mod Keyed
 mod RawLots
+mod Judgements

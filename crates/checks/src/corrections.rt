@@ -89,7 +89,11 @@ fn with_correction(f: CorrectionFindings, l: CorrectionLook, i: usize) -> Correc
     }
 }
 
-fn find_first(marks: &[u8], ticks: &[u32; DayFile::MAX_MARKS], corrections: &[u8]) -> CorrectionFindings
+fn find_first(
+    marks: &[u8],
+    ticks: &[u32; DayFile::MAX_MARKS],
+    corrections: &[u8],
+) -> CorrectionFindings
     requires { ⌜ Ticks (marksIn (now marks)) (now ticks) ⌝ }
     ensures { λ r. ⌜ r ≡ correctionFindings (marksIn (now (marks .entry))) (correctionsIn (now (corrections .entry))) (length (correctionsIn (now (corrections .entry)))) ⌝ }
 {
@@ -125,7 +129,11 @@ pub struct Corrected {
 }
 
 // What the checks decide of corrections within the file's limit, given the marks and their ticks.
-pub(crate) fn decide_corrections(marks: &[u8], ticks: &[u32; DayFile::MAX_MARKS], corrections: &[u8]) -> Corrected
+pub(crate) fn decide_corrections(
+    marks: &[u8],
+    ticks: &[u32; DayFile::MAX_MARKS],
+    corrections: &[u8],
+) -> Corrected
     requires { ⌜ Ticks (marksIn (now marks)) (now ticks) × (length (correctionsIn (now corrections)) ≤ fileLimits .corrections) ⌝ }
     ensures { λ r. ⌜ (r .decision ≡ decisionOf (correctionChecks (marksIn (now (marks .entry))) (correctionsIn (now (corrections .entry))))) × (r .resent ≡ resentOf (correctionsIn (now (corrections .entry)))) ⌝ }
 {
@@ -151,7 +159,9 @@ pub(crate) fn decide_corrections(marks: &[u8], ticks: &[u32; DayFile::MAX_MARKS]
 pub fn check_corrections(marks: &[u8], corrections: &[u8]) -> Corrected
     ensures { λ r. ⌜ r ≡ correctedOf (marksIn (now (marks .entry))) (correctionsIn (now (corrections .entry))) ⌝ }
 {
-    if (mark_count(marks) > DayFile::MAX_MARKS) | (correction_count(corrections) > DayFile::MAX_CORRECTIONS) {
+    if (mark_count(marks) > DayFile::MAX_MARKS)
+        | (correction_count(corrections) > DayFile::MAX_CORRECTIONS)
+    {
         return Corrected {
             decision: Decision::Met {
                 number: 2,

@@ -132,7 +132,9 @@ pub(crate) fn decide_positions(marks: &[u8], positions: &[u8]) -> Decision
 pub fn check_positions(marks: &[u8], positions: &[u8]) -> Decision
     ensures { λ r. ⌜ r ≡ decisionOf (positionsAlone (marksIn (now (marks .entry))) (positionsIn (now (positions .entry)))) ⌝ }
 {
-    if (mark_count(marks) > DayFile::MAX_MARKS) | (position_count(positions) > DayFile::MAX_POSITIONS) {
+    if (mark_count(marks) > DayFile::MAX_MARKS)
+        | (position_count(positions) > DayFile::MAX_POSITIONS)
+    {
         return Decision::Met {
             number: 2,
             index: 0,

@@ -16,6 +16,7 @@ use Rattle.numbers.proofs.Checks.{Agree, refuses-exactly, passes-exactly}
 use Rattle.dayfile.specs.Limits.{Limits}
 use Rattle.dayfile.specs.Layout.{headerSize, countsOf, correctionsStart, positionsStart, lengthOf}
 use Rattle.dayfile.specs.Opening.{HeaderCheck, Short, Counts, Layout, headerChecks, openedBy, openedOf}
+use Rattle.dayfile.specs.declared.file.DayFile.{DayFile}
 use Rattle.dayfile.specs.declared.file.Opened.the-variants.{File, Refused}
 
 module _ (l : Limits) (f : List ℕ) where
@@ -44,15 +45,24 @@ module _ (l : Limits) (f : List ℕ) where
   refused-by (Met n i) e p = let z : i ≡ 0 = met-zero e in cc
   refused-by Unmet e p = absurd (let z : _≡_ {A = ℕ} 0 1 = cc in omega arith)
 
-  passed-by : (d : Decision) → openedBy f d ≡ File (countsOf f) → d ≡ Unmet
-  passed-by (Met n i) p = absurd (let z : _≡_ {A = ℕ} 0 1 = cc in omega arith)
-  passed-by Unmet p = refl
+  -- the answer as a decision
+  pub refused-decides : {k : ℕ} → openedOf l f ≡ Refused k → decisionOf (headerChecks l f) ≡ Met k 0
+  unfolding openedOf
+  refused-decides p = refused-by (decisionOf (headerChecks l f)) refl p
+
+  pub opened-decides : {d : DayFile} → openedOf l f ≡ File d → (decisionOf (headerChecks l f) ≡ Unmet) × (countsOf f ≡ d)
+  unfolding openedOf
+  opened-decides {d} p = by-decision (decisionOf (headerChecks l f)) refl p
+    where
+      by-decision : (x : Decision) → decisionOf (headerChecks l f) ≡ x → openedBy f x ≡ File d → (decisionOf (headerChecks l f) ≡ Unmet) × (countsOf f ≡ d)
+      by-decision (Met n i) e q = absurd (let z : _≡_ {A = ℕ} 0 1 = cc in omega arith)
+      by-decision Unmet e q = (e, cc)
 
   -- It is refused with k exactly where the condition of check k is the first that holds.
   pub open-refuses : {k : ℕ} → (openedOf l f ≡ Refused k) ↔ Refuses (headerChecks l f) k 0
   unfolding openedOf
   open-refuses = (
-    λ p. refuses-exactly (headerChecks l f) header-agrees .0 (refused-by (decisionOf (headerChecks l f)) refl p),
+    λ p. refuses-exactly (headerChecks l f) header-agrees .0 (refused-decides p),
     λ r. ap (openedBy f) (refuses-exactly (headerChecks l f) header-agrees .1 r),
   )
 
@@ -60,6 +70,6 @@ module _ (l : Limits) (f : List ℕ) where
   pub open-passes : (openedOf l f ≡ File (countsOf f)) ↔ Passes (headerChecks l f)
   unfolding openedOf
   open-passes = (
-    λ p. passes-exactly (headerChecks l f) header-agrees .0 (passed-by (decisionOf (headerChecks l f)) p),
+    λ p. passes-exactly (headerChecks l f) header-agrees .0 (opened-decides p .0),
     λ h. ap (openedBy f) (passes-exactly (headerChecks l f) header-agrees .1 h),
   )

@@ -1,43 +1,35 @@
+use lib.Dec.{ltb}
+use borrow.Author.Tests.{ltb-false}
+use Rattle.numbers.proofs.Truth.{or-left, or-right}
+use Rattle.dayfile.specs.Limits.{fileLimits}
+use Rattle.dayfile.specs.Records.{marksIn, correctionsIn}
+use Rattle.checks.proofs.Deciding.{too-many-corrections, not-many-corrections}
 use borrow.Author.Needs.{needs}
 use Rattle.checks.proofs.corrections.check_corrections.Statement.{statement}
 use Rattle.checks.proofs.corrections.check_corrections.Tie as tie
-use Rattle.checks.proofs.corrections.check_corrections.Reads as reads
-use Rattle.checks.proofs.corrections.check_corrections.Lts as lts
-use Rattle.checks.proofs.corrections.decide_corrections.Reads as decide-corrections-reads
-use Rattle.checks.proofs.marks.decide_marks.Reads as decide-marks-reads
-use Rattle.dayfile.proofs.correction_count.Reads as correction-count-reads
-use Rattle.dayfile.proofs.mark_count.Reads as mark-count-reads
 
--- src/corrections.rt:153:9
-mark-count-requires : tie.Need-mark-count-requires
-mark-count-requires c κs = search needs
-
--- src/corrections.rt:153:52
-correction-count-requires : tie.Need-correction-count-requires
-correction-count-requires c κs = search needs
-
--- src/corrections.rt:154:9
 returns : tie.Need-returns
-returns c = ?
+returns c =
+    let a = c .before .before .before .before .before .args in
+    too-many-corrections (marksIn (a .marks .now)) (correctionsIn (a .corrections .now)) (rw (← c .before .before .mark-count .ensures, ← c .before .correction-count .ensures) (c .if1 .taken))
 
--- src/corrections.rt:163:5
 decide-marks-requires : tie.Need-decide-marks-requires
-decide-marks-requires c κs = search needs
+decide-marks-requires c κs = (rw (← c .before .before .before .mark-count .ensures) (ltb-false (fileLimits .marks) _ (or-left (ltb (fileLimits .marks) (c .before .before .before .mark-count .result)) _ (c .before .if1 .left))), search needs)
 
--- src/corrections.rt:164:5
 decide-corrections-requires : tie.Need-decide-corrections-requires
-decide-corrections-requires c κs = search needs
+decide-corrections-requires c κs = (c .before .decide-marks .ensures .1, rw (← c .before .before .before .before .correction-count .ensures) (ltb-false (fileLimits .corrections) _ (or-right (ltb (fileLimits .marks) (c .before .before .before .before .before .mark-count .result)) _ (c .before .before .before .if1 .left))))
 
--- src/corrections.rt:150:1
 returns-2 : tie.Need-returns-2
-returns-2 c = ?
+returns-2 c =
+    let a = c .before .before .before .before .before .before .before .before .before .args in
+    not-many-corrections (marksIn (a .marks .now)) (correctionsIn (a .corrections .now)) (rw (← c .before .before .before .before .before .before .mark-count .ensures, ← c .before .before .before .before .before .correction-count .ensures) (c .before .before .before .before .if1 .left)) (c .decide-corrections .ensures .0) (c .decide-corrections .ensures .1)
 
 pub check-corrections-spec : {M : Type 1} → statement M
 check-corrections-spec =
     tie.close
     (tie.spec
-    mark-count-requires
-    correction-count-requires
+    (λ c κs. search needs)
+    (λ c κs. search needs)
     returns
     decide-marks-requires
     decide-corrections-requires

@@ -1,25 +1,14 @@
 use borrow.Author.Needs.{needs}
 use Rattle.checks.proofs.corrections.decide.Statement.{statement}
 use Rattle.checks.proofs.corrections.decide.Tie as tie
-use Rattle.checks.proofs.corrections.decide.Reads as reads
-use Rattle.checks.proofs.corrections.decide.Lts as lts
-use Rattle.numbers.proofs.deciding.Decision.or.Reads as or-reads
 
--- src/corrections.rt:115:9
-or-requires : tie.Need-or-requires
-or-requires c κs = search needs
-
--- src/corrections.rt:116:9
-or-requires-2 : tie.Need-or-requires-2
-or-requires-2 c κs = search needs
-
--- src/corrections.rt:117:5
-or-requires-3 : tie.Need-or-requires-3
-or-requires-3 c κs = search needs
-
--- src/corrections.rt:109:1
 returns : tie.Need-returns
 returns c = rw (c .or3 .ensures, c .before .or2 .ensures, c .before .before .or .ensures)
 
 pub decide-spec : {M : Type 1} → statement M
-decide-spec = tie.close (tie.spec or-requires or-requires-2 or-requires-3 returns)
+decide-spec = tie.close
+    (tie.spec
+    (λ c κs. search needs)
+    (λ c κs. search needs)
+    (λ c κs. search needs)
+    returns)

@@ -8,12 +8,6 @@ use Rattle.checks.proofs.Deciding.{no-corrections, correction-more}
 use borrow.Author.Needs.{needs}
 use Rattle.checks.proofs.corrections.find_first.Statement.{statement}
 use Rattle.checks.proofs.corrections.find_first.Tie as tie
-use Rattle.checks.proofs.corrections.find_first.Reads as reads
-use Rattle.checks.proofs.corrections.find_first.Lts as lts
-use Rattle.checks.proofs.corrections.look.Reads as look-reads
-use Rattle.checks.proofs.corrections.with_correction.Reads as with-correction-reads
-use Rattle.dayfile.proofs.correction_at.Reads as correction-at-reads
-use Rattle.dayfile.proofs.correction_count.Reads as correction-count-reads
 
 abbrev Inv-loop : tie.InvT-loop
 Inv-loop marks ticks corrections n f₀ i₀ f i = (i ≤ n) × (f ≡ correctionFindings (marksIn marks) (correctionsIn corrections) i)
@@ -21,35 +15,18 @@ Inv-loop marks ticks corrections n f₀ i₀ f i = (i ≤ n) × (f ≡ correctio
 abbrev μ-loop : tie.MeasureT-loop
 μ-loop marks ticks corrections n f₀ i₀ f i = n - i
 
--- src/corrections.rt:95:9
-correction-count-requires : tie.Need-correction-count-requires Inv-loop μ-loop
-correction-count-requires c κs = search needs
-
--- src/corrections.rt:101:5
 loop-holds : tie.Need-loop-holds Inv-loop μ-loop
 loop-holds c = (search needs, no-corrections _ _)
 
--- src/corrections.rt:102:51
-correction-at-requires : tie.Need-correction-at-requires Inv-loop μ-loop
-correction-at-requires c κs = search needs
-
--- src/corrections.rt:102:32
 look-requires : tie.Need-look-requires Inv-loop μ-loop
 look-requires c κs = c .before .before .before .before .before .before .pre
 
--- src/corrections.rt:102:9
-with-correction-requires : tie.Need-with-correction-requires Inv-loop μ-loop
-with-correction-requires c κs = search needs
-
--- src/corrections.rt:103:9
 add-i : tie.Need-add-i Inv-loop μ-loop
 add-i c = omega arith
 
--- src/corrections.rt:101:5
 loop-less : tie.Need-loop-less Inv-loop μ-loop
 loop-less c = omega arith
 
--- src/corrections.rt:101:5
 loop-again : tie.Need-loop-again Inv-loop μ-loop
 loop-again c =
     let at = c .before .before .before .before .loop in
@@ -57,7 +34,6 @@ loop-again c =
     let ms = marksIn (a .marks .now) in
     (omega arith, correction-more ms (correctionsIn (a .corrections .now)) (at .i) (at .inv .1) (c .before .look .ensures ∙ ap (correctionLook ms) (c .before .before .correction-at .ensures)) (c .with-correction .ensures))
 
--- src/corrections.rt:91:1
 returns : tie.Need-returns Inv-loop μ-loop
 returns c =
     let at = c .before .loop in
@@ -71,11 +47,11 @@ find-first-spec =
     (tie.spec
     Inv-loop
     μ-loop
-    correction-count-requires
+    (λ c κs. search needs)
     loop-holds
-    correction-at-requires
+    (λ c κs. search needs)
     look-requires
-    with-correction-requires
+    (λ c κs. search needs)
     add-i
     loop-less
     loop-again

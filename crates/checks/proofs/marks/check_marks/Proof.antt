@@ -1,26 +1,27 @@
+use lib.ListN.{length}
+use Rattle.dayfile.specs.Limits.{fileLimits}
+use native.Mathlib.Omega.{arith}
+use borrow.Author.Tests.{lt-ltb, le-ltb}
+use Rattle.dayfile.specs.Records.{marksIn}
+use Rattle.checks.specs.Marks.{markChecks, manyMarks}
+use Rattle.checks.proofs.Deciding.{too-many, not-many}
 use borrow.Author.Needs.{needs}
 use Rattle.checks.proofs.marks.check_marks.Statement.{statement}
 use Rattle.checks.proofs.marks.check_marks.Tie as tie
-use Rattle.checks.proofs.marks.check_marks.Reads as reads
-use Rattle.checks.proofs.marks.check_marks.Lts as lts
-use Rattle.checks.proofs.marks.decide_marks.Reads as decide-marks-reads
-use Rattle.dayfile.proofs.mark_count.Reads as mark-count-reads
 
--- src/marks.rt:175:8
-mark-count-requires : tie.Need-mark-count-requires
-mark-count-requires c κs = search needs
-
--- src/marks.rt:176:9
 returns : tie.Need-returns
-returns c = ?
+returns c = let ms = marksIn (c .before .before .before .args .marks .now) in too-many (manyMarks ms) (markChecks ms) (lt-ltb (fileLimits .marks) (length ms) (omega (arith, c .if1 .taken, c .before .mark-count .ensures)))
 
--- src/marks.rt:182:5
 decide-marks-requires : tie.Need-decide-marks-requires
-decide-marks-requires c κs = search needs
+decide-marks-requires c κs = (omega (arith, c .before .before .mark-count .ensures, c .before .if1 .left), search needs)
 
--- src/marks.rt:172:1
 returns-2 : tie.Need-returns-2
-returns-2 c = ?
+returns-2 c = let ms = marksIn (c .before .before .before .before .before .args .marks .now) in not-many (manyMarks ms) (markChecks ms) (le-ltb (fileLimits .marks) (length ms) (omega (arith, c .before .before .if1 .left, c .before .before .before .mark-count .ensures))) (c .decide-marks .ensures .0)
 
 pub check-marks-spec : {M : Type 1} → statement M
-check-marks-spec = tie.close (tie.spec mark-count-requires returns decide-marks-requires returns-2)
+check-marks-spec = tie.close
+    (tie.spec
+    (λ c κs. search needs)
+    returns
+    decide-marks-requires
+    returns-2)

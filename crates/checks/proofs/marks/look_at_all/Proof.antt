@@ -13,12 +13,6 @@ use Rattle.numbers.proofs.Searches.{some-start, some-next}
 use borrow.Author.Needs.{needs}
 use Rattle.checks.proofs.marks.look_at_all.Statement.{statement}
 use Rattle.checks.proofs.marks.look_at_all.Tie as tie
-use Rattle.checks.proofs.marks.look_at_all.Reads as reads
-use Rattle.checks.proofs.marks.look_at_all.Lts as lts
-use Rattle.checks.proofs.marks.any.Reads as any-reads
-use Rattle.checks.proofs.marks.look.Reads as look-reads
-use Rattle.dayfile.proofs.mark_at.Reads as mark-at-reads
-use Rattle.dayfile.proofs.mark_count.Reads as mark-count-reads
 
 abbrev Inv-loop : tie.InvT-loop
 Inv-loop marks ticks₀ n bad₀ i₀ ticks bad i = ((i ≤ n) × (length ticks ≡ fileLimits .marks)) × (bad ≡ some (λ k. anyMark (markLook (markAt (marksIn marks) k))) i) × Holds 0 (tickAt (marksIn marks)) i ticks
@@ -26,43 +20,21 @@ Inv-loop marks ticks₀ n bad₀ i₀ ticks bad i = ((i ≤ n) × (length ticks 
 abbrev μ-loop : tie.MeasureT-loop
 μ-loop marks ticks₀ n bad₀ i₀ ticks bad i = n - i
 
--- src/marks.rt:88:9
-mark-count-requires : tie.Need-mark-count-requires Inv-loop μ-loop
-mark-count-requires c κs = search needs
-
--- src/marks.rt:91:5
 loop-holds : tie.Need-loop-holds Inv-loop μ-loop
 loop-holds c = ((search needs, c .before .before .pre .1), some-start _, holds-none)
 
--- src/marks.rt:92:22
-mark-at-requires : tie.Need-mark-at-requires Inv-loop μ-loop
-mark-at-requires c κs = search needs
-
--- src/marks.rt:92:13
-look-requires : tie.Need-look-requires Inv-loop μ-loop
-look-requires c κs = search needs
-
--- src/marks.rt:93:21
-any-requires : tie.Need-any-requires Inv-loop μ-loop
-any-requires c κs = search needs
-
--- src/marks.rt:94:9
 mul-ticks : tie.Need-mul-ticks Inv-loop μ-loop
 mul-ticks c = omega (arith, c .before .before .before .loop-test .taken, c .before .before .before .before .before .mark-count .ensures, c .before .before .before .before .before .before .before .pre .0)
 
--- src/marks.rt:94:9
 element-write-ticks : tie.Need-element-write-ticks Inv-loop μ-loop
 element-write-ticks c = omega (arith, c .before .before .before .loop-test .taken, c .before .before .before .before .before .mark-count .ensures, c .before .before .before .before .before .before .before .pre .0)
 
--- src/marks.rt:95:9
 add-i : tie.Need-add-i Inv-loop μ-loop
 add-i c = omega arith
 
--- src/marks.rt:91:5
 loop-less : tie.Need-loop-less Inv-loop μ-loop
 loop-less c = omega arith
 
--- src/marks.rt:91:5
 loop-again : tie.Need-loop-again Inv-loop μ-loop
 loop-again c =
     let at = c .before .before .before .before .loop in
@@ -74,7 +46,6 @@ loop-again c =
       holds-more h (ap (λ (x : MarkLook). x .tick) l) (at .inv .2),
     )
 
--- src/marks.rt:84:1
 returns : tie.Need-returns Inv-loop μ-loop
 returns c =
     let at = c .before .loop in
@@ -91,11 +62,11 @@ look-at-all-spec =
     (tie.spec
     Inv-loop
     μ-loop
-    mark-count-requires
+    (λ c κs. search needs)
     loop-holds
-    mark-at-requires
-    look-requires
-    any-requires
+    (λ c κs. search needs)
+    (λ c κs. search needs)
+    (λ c κs. search needs)
     mul-ticks
     element-write-ticks
     add-i

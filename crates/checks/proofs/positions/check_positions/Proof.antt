@@ -1,38 +1,37 @@
+use lib.Dec.{ltb}
+use borrow.Author.Tests.{ltb-false}
+use Rattle.numbers.proofs.Truth.{or-left}
+use Rattle.dayfile.specs.Limits.{fileLimits}
+use Rattle.dayfile.specs.Records.{marksIn, positionsIn}
+use Rattle.checks.specs.Positions.{positionChecks, manyPositions}
+use Rattle.checks.proofs.Deciding.{too-many, not-many}
 use borrow.Author.Needs.{needs}
 use Rattle.checks.proofs.positions.check_positions.Statement.{statement}
 use Rattle.checks.proofs.positions.check_positions.Tie as tie
-use Rattle.checks.proofs.positions.check_positions.Reads as reads
-use Rattle.checks.proofs.positions.check_positions.Lts as lts
-use Rattle.checks.proofs.positions.decide_positions.Reads as decide-positions-reads
-use Rattle.dayfile.proofs.mark_count.Reads as mark-count-reads
-use Rattle.dayfile.proofs.position_count.Reads as position-count-reads
 
--- src/positions.rt:135:9
-mark-count-requires : tie.Need-mark-count-requires
-mark-count-requires c κs = search needs
-
--- src/positions.rt:135:52
-position-count-requires : tie.Need-position-count-requires
-position-count-requires c κs = search needs
-
--- src/positions.rt:136:9
 returns : tie.Need-returns
-returns c = ?
+returns c =
+    let a = c .before .before .before .before .before .args in
+    let ms = marksIn (a .marks .now) in
+    let ps = positionsIn (a .positions .now) in
+    too-many (manyPositions ms ps) (positionChecks ms ps) (rw (← c .before .before .mark-count .ensures, ← c .before .position-count .ensures) (c .if1 .taken))
 
--- src/positions.rt:141:5
 decide-positions-requires : tie.Need-decide-positions-requires
-decide-positions-requires c κs = search needs
+decide-positions-requires c κs = rw (← c .before .before .mark-count .ensures) (ltb-false (fileLimits .marks) _ (or-left (ltb (fileLimits .marks) (c .before .before .mark-count .result)) _ (c .if1 .left)))
 
--- src/positions.rt:132:1
 returns-2 : tie.Need-returns-2
-returns-2 c = ?
+returns-2 c =
+    let a = c .before .before .before .before .before .before .args in
+    let ms = marksIn (a .marks .now) in
+    let ps = positionsIn (a .positions .now) in
+    not-many (manyPositions ms ps) (positionChecks ms ps) (rw (← c .before .before .before .mark-count .ensures, ← c .before .before .position-count .ensures) (c .before .if1 .left)) (c .decide-positions .ensures)
 
 pub check-positions-spec : {M : Type 1} → statement M
 check-positions-spec =
     tie.close
     (tie.spec
-    mark-count-requires
-    position-count-requires
+    (λ c κs. search needs)
+    (λ c κs. search needs)
     returns
     decide-positions-requires
     returns-2)
