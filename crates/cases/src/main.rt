@@ -42,8 +42,8 @@ fn print_answer(answer: Settlement, amounts: &[i64]) {
             resent,
         } => {
             field(positions as u64);
-            signed_field(aud.0);
-            signed_field(nzd.0);
+            signed_field(aud.cents());
+            signed_field(nzd.cents());
             field(resent as u64);
             field(digest(amounts, positions));
             print_touched(amounts, positions);

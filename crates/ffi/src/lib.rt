@@ -56,8 +56,8 @@ fn day_numbers(s: Settlement) -> Outcome
             refused: 0,
             index: 0,
             positions: positions as u64,
-            aud: aud.0,
-            nzd: nzd.0,
+            aud: aud.cents(),
+            nzd: nzd.cents(),
             resent: resent as u64,
         },
         Settlement::Refused { number, index } => Outcome {

@@ -37,8 +37,8 @@ fn write_totals(pairs: &[u8; 200], aud: AudCents, nzd: NzdCents, out: &mut [u8])
     requires { ⌜ now pairs ≡ digitPairs ⌝ }
     ensures { λ r. ⌜ Writes (totalLine AUD (aud .0) ++ totalLine NZD (nzd .0)) r (now (out .entry)) (now (out .exit)) ⌝ }
 {
-    let nzd_at = write_total(pairs, b"total AUD ", aud.0, out);
-    nzd_at + write_total(pairs, b"total NZD ", nzd.0, &mut out[nzd_at..])
+    let nzd_at = write_total(pairs, b"total AUD ", aud.cents(), out);
+    nzd_at + write_total(pairs, b"total NZD ", nzd.cents(), &mut out[nzd_at..])
 }
 
 // Writes the totals and the resent count.

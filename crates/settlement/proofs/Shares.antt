@@ -17,24 +17,24 @@ use Rattle.dayfile.specs.Records.{markAt, positionAt}
 use Rattle.dayfile.specs.declared.records.Mark.{Mark}
 use Rattle.dayfile.specs.declared.records.Position.{Position}
 use Rattle.settlement.specs.Settling.{keepOf, amountOf, shareOf, sumOfAmounts}
-use Rattle.settlement.specs.Steps.{totalCap, Payable, Named, Bounded, isNzd, nzdAt, currencyBy, Adds, flaggedShare, PaysFlagged, Pays}
+use Rattle.settlement.specs.Steps.{amountCap, totalCap, Payable, Named, Bounded, isNzd, nzdAt, currencyBy, Addable, Adds, flaggedShare, PaysFlagged, Pays}
 use Rattle.settlement.specs.declared.amounts.Sums.{Sums}
 use Rattle.numbers.proofs.Chain.{by-two}
 use Rattle.numbers.proofs.SignedSums.{sum-below}
 use Rattle.settlement.proofs.Sizes.{keep-small, amount-small, sum-small}
 
 -- an amount more in one of the sums
-pub adds-nzd : {s r : Sums} {b : Bool} {x : ℤ} → b ≡ true → r .aud ≡ s .aud → r .nzd ≡ s .nzd +ℤ x → Adds b x s r
-adds-nzd {s} e p q = record { aud = rw e (p ∙ sym (+ℤ-idr (s .aud))); nzd = rw e q }
+pub adds-nzd : {s r : Sums} {b : Bool} {x y : ℤ} → b ≡ true → y ≡ x → r .aud .0 ≡ s .aud .0 → r .nzd .0 ≡ s .nzd .0 +ℤ y → Adds b x s r
+adds-nzd {s} e f p q = record { aud = rw e (p ∙ sym (+ℤ-idr (s .aud .0))); nzd = rw (e, ← f) q }
 
-pub adds-aud : {s r : Sums} {b : Bool} {x : ℤ} → b ≡ false → r .aud ≡ s .aud +ℤ x → r .nzd ≡ s .nzd → Adds b x s r
-adds-aud {s} e p q = record { aud = rw e p; nzd = rw e (q ∙ sym (+ℤ-idr (s .nzd))) }
+pub adds-aud : {s r : Sums} {b : Bool} {x y : ℤ} → b ≡ false → y ≡ x → r .aud .0 ≡ s .aud .0 +ℤ y → r .nzd .0 ≡ s .nzd .0 → Adds b x s r
+adds-aud {s} e f p q = record { aud = rw (e, ← f) p; nzd = rw e (q ∙ sym (+ℤ-idr (s .nzd .0))) }
 
 module _ (ps : List Position) (a : List ℤ) (flags : List Bool) where
   -- a loop over the positions at i: the sums of those before it
   pub record Summed (i : ℕ) (s : Sums) : Type 0 where
-    pub aud : s .aud ≡ sum (flaggedShare ps a flags Aud) i
-    pub nzd : s .nzd ≡ sum (flaggedShare ps a flags Nzd) i
+    pub aud : s .aud .0 ≡ sum (flaggedShare ps a flags Aud) i
+    pub nzd : s .nzd .0 ≡ sum (flaggedShare ps a flags Nzd) i
 
   pub summed-more : {i : ℕ} {s r : Sums} {b : Bool} {x : ℤ} → b ≡ getD flags (positionAt ps i .mark) false → x ≡ amountOf ps (entryOf a) i → Adds b x s r → Summed i s → Summed (i + 1) r
   unfolding flaggedShare
@@ -50,8 +50,8 @@ module _ (ps : List Position) (a : List ℤ) (flags : List Bool) where
     shares-in wanted =
         omega (arith, sum-small (flaggedShare ps a flags wanted) i (λ k l. le-trans (keep-small wanted _ (amountOf ps (entryOf a) k)) (amount-small ps a pay bound k (omega arith))), pay .few)
 
-    pub summed-in : {s : Sums} → Summed i s → (natAbs (s .aud) ≤ totalCap) × (natAbs (s .nzd) ≤ totalCap)
-    summed-in e = (rw (e .aud) (shares-in Aud), rw (e .nzd) (shares-in Nzd))
+    pub summed-in : {s : Sums} {x : ℤ} → Summed i s → natAbs x ≤ amountCap → Addable (s .aud .0) x × Addable (s .nzd .0) x
+    summed-in e small = (record { total = rw (e .aud) (shares-in Aud); amount = small }, record { total = rw (e .nzd) (shares-in Nzd); amount = small })
 
 currency-back : (c : Currency) → currencyBy (isNzd c) ≡ c
 currency-back Aud = refl

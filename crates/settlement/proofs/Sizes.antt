@@ -6,18 +6,19 @@ use native.Mathlib.Nat.{mul-le-mul}
 use native.Mathlib.Omega.{arith}
 use lib.ListN.{length}
 use mir.Syntax.{w64}
-use mir.Val.{toZ, ofZ}
-use lib.IntN.{ℤ, natAbs, _*ℤ_}
+use mir.Val.{SFits, toZ, ofZ}
+use mir.ValLaws.{toZ-ofZ}
+use lib.IntN.{ℤ, natAbs, _+ℤ_, _*ℤ_}
 use Rattle.products.specs.declared.table.Currency.{Currency}
 use Rattle.products.specs.declared.table.Currency.the-variants.{Aud, Nzd}
 use Rattle.dayfile.specs.Limits.{lotsLimit, fileLimits}
 use Rattle.numbers.specs.Folds.{sum}
 use Rattle.dayfile.specs.Records.{positionAt}
 use Rattle.settlement.specs.Settling.{amountOf, keepOf}
-use Rattle.settlement.specs.Steps.{Payable, Bounded, amountCap, changeCap}
+use Rattle.settlement.specs.Steps.{Payable, Bounded, Addable, amountCap, changeCap}
 use Rattle.numbers.specs.Integers.{entryOf}
 use Rattle.dayfile.specs.declared.records.Position.{Position}
-use Rattle.numbers.proofs.Signed.{size-sum, size-mul, back-small}
+use Rattle.numbers.proofs.Signed.{size-sum, size-mul, fits, back-small}
 
 -- a product of bounded numbers
 pub product-small : (x y : ℤ) → natAbs x ≤ lotsLimit → natAbs y ≤ changeCap → natAbs (x *ℤ y) ≤ amountCap
@@ -25,6 +26,23 @@ product-small x y h k = rw (size-mul x y) (mul-le-mul h k)
 
 pub small-as : {x y : ℤ} → x ≡ y → natAbs y ≤ amountCap → natAbs x ≤ amountCap
 small-as e h = rw e h
+
+-- a sum and an amount more, as an i64 adds them
+module _ {s x : ℤ} (h : Addable s x) where
+  s-back : toZ w64 (ofZ w64 s) ≡ s
+  s-back = back-small s (omega arith)
+
+  x-back : toZ w64 (ofZ w64 x) ≡ x
+  x-back = back-small x (omega arith)
+
+  pub sum-fits : SFits w64 (toZ w64 (ofZ w64 s) +ℤ toZ w64 (ofZ w64 x))
+  sum-fits = rw (s-back, x-back) (fits _ (omega (arith, size-sum s x)))
+
+  pub sum-gives : toZ w64 (ofZ w64 (toZ w64 (ofZ w64 s) +ℤ toZ w64 (ofZ w64 x))) ≡ s +ℤ x
+  sum-gives = toZ-ofZ w64 _ sum-fits ∙ rw (s-back, x-back)
+
+pub addable-as : {s x y : ℤ} → y ≡ x → Addable s x → Addable s y
+addable-as e h = rw e h
 
 -- a sum of n bounded numbers
 pub sum-small : (f : ℕ → ℤ) (n : ℕ) → ((i : ℕ) → i < n → natAbs (f i) ≤ amountCap) → natAbs (sum f n) ≤ n * amountCap

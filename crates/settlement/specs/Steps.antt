@@ -88,10 +88,15 @@ abbrev pub currencyBy : Bool → Currency
 currencyBy true = Nzd
 currencyBy false = Aud
 
+-- a sum to which an amount may be added
+pub record Addable (s x : ℤ) : Type 0 where
+  pub total : natAbs s ≤ totalCap
+  pub amount : natAbs x ≤ amountCap
+
 -- an amount more in one of two sums
 pub record Adds (b : Bool) (x : ℤ) (s r : Sums) : Type 0 where
-  pub aud : r .aud ≡ s .aud +ℤ keepOf Aud (currencyBy b) x
-  pub nzd : r .nzd ≡ s .nzd +ℤ keepOf Nzd (currencyBy b) x
+  pub aud : r .aud .0 ≡ s .aud .0 +ℤ keepOf Aud (currencyBy b) x
+  pub nzd : r .nzd .0 ≡ s .nzd .0 +ℤ keepOf Nzd (currencyBy b) x
 
 -- a position's amount, if its currency is the wanted one; an array says which marks are in New Zealand dollars
 unfoldable pub flaggedShare : List Position → List ℤ → List Bool → Currency → ℕ → ℤ
@@ -100,14 +105,14 @@ flaggedShare ps a nzd wanted i = keepOf wanted (currencyBy (getD nzd (positionAt
 -- the amounts in the first places of a slice, and the sum of each currency's by that array
 pub record PaysFlagged (ps : List Position) (a : List ℤ) (flags : List Bool) (r : Sums) (before after : List ℤ) : Type 0 where
   pub written : after ≡ front (amountOf ps (entryOf a)) before (length ps)
-  pub aud : r .aud ≡ sum (flaggedShare ps a flags Aud) (length ps)
-  pub nzd : r .nzd ≡ sum (flaggedShare ps a flags Nzd) (length ps)
+  pub aud : r .aud .0 ≡ sum (flaggedShare ps a flags Aud) (length ps)
+  pub nzd : r .nzd .0 ≡ sum (flaggedShare ps a flags Nzd) (length ps)
 
 -- the amounts in the first places of a slice, and the sum of each currency's
 pub record Pays (ms : List Mark) (ps : List Position) (a : List ℤ) (r : Sums) (before after : List ℤ) : Type 0 where
   pub written : after ≡ front (amountOf ps (entryOf a)) before (length ps)
-  pub aud : r .aud ≡ sumOfAmounts ms ps (entryOf a) Aud
-  pub nzd : r .nzd ≡ sumOfAmounts ms ps (entryOf a) Nzd
+  pub aud : r .aud .0 ≡ sumOfAmounts ms ps (entryOf a) Aud
+  pub nzd : r .nzd .0 ≡ sumOfAmounts ms ps (entryOf a) Nzd
 
 -- an answer and a slice that are what a plan says, of the slice before
 pub record Settles (plan : Plan) (r : Settlement) (before after : List ℤ) : Type 0 where

@@ -1,4 +1,6 @@
 // The amounts of the positions and the sums of each currency's, from the marks' changes in value.
+use crate::cents::AudCents;
+use crate::cents::NzdCents;
 use dayfile::DayFile;
 use dayfile::mark_at;
 use dayfile::mark_count;
@@ -9,12 +11,12 @@ use products::currency_of;
 ghost use mathlib.Core.Path.{_≡_};
 ghost use mathlib.Core.Bool.{false};
 ghost use Prim.Native.Nat.{_≤_};
-ghost use lib.IntN.{natAbs, _+ℤ_, _*ℤ_};
+ghost use lib.IntN.{natAbs, _*ℤ_};
 ghost use lib.ListN.{length};
 ghost use Rattle.numbers.specs.Folds.{Holds};
 ghost use Rattle.dayfile.specs.Limits.{fileLimits, lotsLimit};
 ghost use Rattle.dayfile.specs.Records.{marksIn, positionsIn};
-ghost use Rattle.settlement.specs.Steps.{changeCap, amountCap, totalCap, Payable, Named, Bounded, isNzd, nzdAt, Adds, PaysFlagged, Pays};
+ghost use Rattle.settlement.specs.Steps.{changeCap, Payable, Named, Bounded, isNzd, nzdAt, Addable, Adds, PaysFlagged, Pays};
 
 // Lots times a change in value.
 fn times(lots: i64, change: i64) -> i64
@@ -24,34 +26,28 @@ fn times(lots: i64, change: i64) -> i64
     lots * change
 }
 
-// A sum and one amount more.
-fn plus(sum: i64, amount: i64) -> i64
-    requires { ⌜ (natAbs sum ≤ totalCap) × (natAbs amount ≤ amountCap) ⌝ }
-    ensures { λ r. ⌜ r ≡ sum +ℤ amount ⌝ }
-{
-    sum + amount
-}
-
-// The sums of the amounts in Australian cents and of those in New Zealand cents, which are never added to each other.
+// The sums of the amounts in Australian cents and of those in New Zealand cents.
 pub struct Sums {
-    pub aud: i64,
-    pub nzd: i64,
+    pub aud: AudCents,
+    pub nzd: NzdCents,
 }
 
-// One amount more, in the sum of its own currency.
+// One amount more, in the cents of its own currency: a mark's flag says whether that is New Zealand's.
 fn add(s: Sums, nzd: bool, x: i64) -> Sums
-    requires { ⌜ (natAbs (s .aud) ≤ totalCap) × (natAbs (s .nzd) ≤ totalCap) × (natAbs x ≤ amountCap) ⌝ }
+    requires { ⌜ Addable (s .aud .0) x × Addable (s .nzd .0) x ⌝ }
     ensures { λ r. ⌜ Adds nzd x s r ⌝ }
 {
+    let aud_sum = s.aud;
+    let nzd_sum = s.nzd;
     if nzd {
         return Sums {
-            aud: s.aud,
-            nzd: plus(s.nzd, x),
+            aud: aud_sum,
+            nzd: nzd_sum.plus(NzdCents::of(x)),
         };
     }
     Sums {
-        aud: plus(s.aud, x),
-        nzd: s.nzd,
+        aud: aud_sum.plus(AudCents::of(x)),
+        nzd: nzd_sum,
     }
 }
 
@@ -90,7 +86,10 @@ fn pay_flagged(
     ensures { λ r. ⌜ PaysFlagged (positionsIn (now (positions .entry))) (now (a .entry)) (now (nzd .entry)) r (now (amounts .entry)) (now (amounts .exit)) ⌝ }
 {
     let count = position_count(positions);
-    let mut s = Sums { aud: 0, nzd: 0 };
+    let mut s = Sums {
+        aud: AudCents::ZERO,
+        nzd: NzdCents::ZERO,
+    };
     let mut i = 0;
     while i < count {
         let p = position_at(positions, i);

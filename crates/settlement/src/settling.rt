@@ -1,5 +1,7 @@
 // The settlement of a day file.
 use crate::amounts::pay;
+use crate::cents::AudCents;
+use crate::cents::NzdCents;
 use crate::groups::changes;
 use checks::Judged;
 use checks::judge;
@@ -13,12 +15,6 @@ ghost use Rattle.dayfile.specs.Records.{positionsIn, listsOf};
 ghost use Rattle.dayfile.specs.Layout.{listsIn};
 ghost use Rattle.settlement.specs.Settling.{said, accept, roomPlan, answerOf, amountsAfter};
 ghost use Rattle.settlement.specs.Steps.{Passing, Sound, Settles};
-
-// A number of Australian cents.
-pub struct AudCents(pub i64);
-
-// A number of New Zealand cents.
-pub struct NzdCents(pub i64);
 
 // The answer to a day file: how many positions, the totals and the resent count; or the number of a check and the index of a record.
 pub enum Settlement {
@@ -48,10 +44,12 @@ fn settle_accepted(
     let mut a = [0i64; DayFile::MAX_MARKS];
     changes(marks, corrections, &mut a);
     let sums = pay(marks, positions, &a, amounts);
+    let aud = sums.aud;
+    let nzd = sums.nzd;
     Settlement::Settled {
         positions: position_count(positions),
-        aud: AudCents(sums.aud),
-        nzd: NzdCents(sums.nzd),
+        aud,
+        nzd,
         resent,
     }
 }

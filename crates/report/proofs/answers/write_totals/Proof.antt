@@ -1,6 +1,6 @@
+use mathlib.Core.Path.{_∙_}
+use Rattle.numbers.proofs.Signed.{back}
 use Rattle.report.specs.Lines.{totalLine}
-use mir.Facts.{toZ-ofZ}
-use mir.Syntax.{w64}
 use Rattle.text.proofs.Writing.{writes-then}
 use borrow.Author.Needs.{needs}
 use Rattle.report.proofs.answers.write_totals.Statement.{statement}
@@ -9,7 +9,9 @@ use Rattle.report.proofs.answers.write_totals.Tie as tie
 returns : tie.Need-returns
 unfolding totalLine
 returns c =
-    writes-then (rw (toZ-ofZ {w = w64} (record { sfits = c .before .before .before .before .before .before .before .before .before .struct-told .given .0 .1 })) at (c .before .before .before .before .before .before .before .before .write-total .ensures)) (rw (toZ-ofZ {w = w64} (record { sfits = c .before .before .before .struct-told2 .given .0 .1 })) at (c .before .before .write-total2 .ensures))
+    let aud = c .before .before .before .before .before .before .before .before .before .before .cents in
+    let nzd = c .before .before .before .before .cents2 in
+    writes-then (rw (back (aud .result) (aud .ok) ∙ aud .ensures) at (c .before .before .before .before .before .before .before .before .write-total .ensures)) (rw (back (nzd .result) (nzd .ok) ∙ nzd .ensures) at (c .before .before .write-total2 .ensures))
 
 pub write-totals-spec : {M : Type 1} → statement M
 write-totals-spec =
@@ -17,7 +19,9 @@ write-totals-spec =
     (tie.spec
     (λ c. search needs)
     (λ c κs. search needs)
+    (λ c κs. search needs)
     (λ c. search needs)
+    (λ c κs. search needs)
     (λ c. search needs)
     (λ c. search needs)
     (λ c. search needs)

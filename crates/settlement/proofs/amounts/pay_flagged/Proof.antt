@@ -70,8 +70,8 @@ add-requires c κs =
     let at = c .before .before .before .before .before .before .loop in
     let q = c .before .before .before .before .before .before .before .position-count .ensures in
     let g = s .pre .0 in
-    let sums = summed-in _ _ _ (g .0) (g .1) (omega (arith, q, at .inv .0)) (at .inv .2) in
-    (sums .0, sums .1, small-as (paid (c .before)) (amount-small _ _ (g .0) (g .1) (at .i) (omega (arith, q, c .before .before .before .before .before .loop-test .taken))))
+    let x = small-as (paid (c .before)) (amount-small _ _ (g .0) (g .1) (at .i) (omega (arith, q, c .before .before .before .before .before .loop-test .taken))) in
+    summed-in _ _ _ (g .0) (g .1) (omega (arith, q, at .inv .0)) (at .inv .2) x
 
 add-i : tie.Need-add-i Inv-loop μ-loop
 add-i c = omega (arith, c .before .before .before .before .before .before .before .before .position-count .ensures, c .before .before .before .before .before .before .before .before .before .before .pre .0 .0 .few, c .before .before .before .before .before .before .loop-test .taken)

@@ -4,7 +4,6 @@ use Rattle.settlement.specs.Steps.{blank}
 use Rattle.settlement.proofs.Changes.{bounded-as}
 use mathlib.Core.Path.{refl, _∙_}
 use Rattle.products.specs.declared.table.Currency.the-variants.{Aud, Nzd}
-use Rattle.numbers.proofs.Signed.{back}
 use Rattle.settlement.proofs.Accepted.{payable, named}
 use Rattle.settlement.proofs.Plans.{settled-by}
 use Rattle.settlement.proofs.Totals.{sum-is, paid-is}
@@ -30,7 +29,7 @@ returns c =
     let p = c .before .before .before .before .pay in
     let e = p .ensures in
     record {
-      answer = settled-by (c .before .before .position-count .ensures) (back (p .result .aud) (c .before .struct-told .given .0 .1) ∙ e .aud ∙ rw q (sum-is _ acc Aud)) (back (p .result .nzd) (c .struct-told2 .given .1 .0 .1) ∙ e .nzd ∙ rw q (sum-is _ acc Nzd)) (passing .counted);
+      answer = settled-by (c .position-count .ensures) (e .aud ∙ rw q (sum-is _ acc Aud)) (e .nzd ∙ rw q (sum-is _ acc Nzd)) (passing .counted);
       written = e .written ∙ rw q (paid-is _ acc _);
     }
 
