@@ -14,12 +14,16 @@ use Rattle.numbers.specs.Checks.{_before_, decisionOf}
 use Rattle.numbers.specs.declared.deciding.Decision.the-variants.{Unmet}
 use Rattle.numbers.proofs.Truth.{or-left, or-right}
 use Rattle.numbers.proofs.Checks.{both-unmet, decision-before, passed-at}
-use Rattle.dayfile.specs.Limits.{lotsLimit}
+use Rattle.dayfile.specs.Limits.{Limits, lotsLimit}
+use Rattle.dayfile.specs.Layout.{countsOf, listsOfFile}
+use Rattle.dayfile.specs.Opening.{headerChecks, openedOf}
+use Rattle.dayfile.specs.declared.file.Opened.the-variants.{File}
+use Rattle.dayfile.proofs.Refusals.{opened-decides}
 use Rattle.dayfile.specs.Records.{Lists, positionAt}
 use Rattle.checks.specs.Marks.{MarkCheck, MarkCode, MarkDate, MarkLimit, MarkTick, MarkRepeated, markCheck, markChecks}
 use Rattle.checks.specs.Corrections.{CorrectionCheck, CorrectionMark, CorrectionPrice, CorrectionClash, correctionCheck, correctionChecks}
 use Rattle.checks.specs.Positions.{badLots, PositionCheck, PositionMark, PositionLots, positionCheck, positionChecks}
-use Rattle.checks.specs.Judging.{recordChecks}
+use Rattle.checks.specs.Judging.{recordChecks, fileChecks}
 
 -- ---- the three parts
 
@@ -42,6 +46,18 @@ module _ (ls : Lists) where
       let d = correctionChecks (ls .marks) (ls .corrections) in
       let q = positionChecks (ls .marks) (ls .positions) in
       decision-before m (d before q) ∙ rw a (decision-before d q ∙ rw b c)
+
+-- ---- a file
+
+module _ (l : Limits) (f : List ℕ) where
+  pub passed-parts : decisionOf (fileChecks l f) ≡ Unmet → (openedOf l f ≡ File (countsOf f)) × (decisionOf (recordChecks (listsOfFile f)) ≡ Unmet)
+  unfolding openedOf
+  passed-parts p =
+      let b = both-unmet (decisionOf (headerChecks l f)) (decisionOf (recordChecks (listsOfFile f))) (sym (decision-before (headerChecks l f) (recordChecks (listsOfFile f))) ∙ p) in
+      (rw (b .0), b .1)
+
+  pub parts-passed : openedOf l f ≡ File (countsOf f) → decisionOf (recordChecks (listsOfFile f)) ≡ Unmet → decisionOf (fileChecks l f) ≡ Unmet
+  parts-passed o p = decision-before (headerChecks l f) (recordChecks (listsOfFile f)) ∙ rw (opened-decides l f o .0) p
 
 -- ---- every check stands in its order
 

@@ -5,8 +5,8 @@ use Prim.Native.Nat.{ℕ, _+_, _-_, _*_, _/_, _≤_}
 use native.Mathlib.Omega.{arith}
 use lib.ListN.{length}
 use Rattle.numbers.specs.Bytes.{u32At, part, recordsOf}
-use Rattle.dayfile.specs.Records.{markSize, correctionSize, positionSize, markOf, correctionOf, positionOf}
-use Rattle.dayfile.specs.Layout.{countsOf, lengthOf, headerSize, correctionsStart, positionsStart, listsIn, listsOfFile}
+use Rattle.dayfile.specs.Records.{markSize, correctionSize, positionSize, markOf, correctionOf, positionOf, listsOf}
+use Rattle.dayfile.specs.Layout.{countsOf, lengthOf, headerSize, correctionsStart, positionsStart, markBytes, correctionBytes, positionBytes, listsIn, listsOfFile}
 use Rattle.dayfile.specs.Steps.{LaidOut, Small}
 use Rattle.dayfile.specs.declared.file.DayFile.{DayFile}
 use Rattle.numbers.proofs.Sections.{size-is, length-part}
@@ -44,3 +44,7 @@ header-counts f whole = (marks-sized f (countsOf f) whole, corrections-sized f (
 -- the bytes between two offsets are a section
 pub section-is : (s : List ℕ) (n : ℕ) {a b e : ℕ} {r : List ℕ} → r ≡ part a (e - a) s → a ≡ b → e ≡ b + n → r ≡ part b n s
 section-is s n {a} {b} {e} p q h = let k : e - a ≡ n = omega arith in rw (← q, ← k) p
+
+-- the three lists of a file's sections
+pub lists-are : (s : List ℕ) (d : DayFile) {m c p : List ℕ} → m ≡ markBytes s d → c ≡ correctionBytes s d → p ≡ positionBytes s d → listsOf m c p ≡ listsIn s d
+lists-are s d a b e = rw (a, b, e)

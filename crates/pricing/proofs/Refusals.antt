@@ -6,11 +6,13 @@ use mathlib.Core.Logic.{_↔_}
 use Prim.Native.Nat.{ℕ, _+_, _-_, _%_, _<_, _∣_}
 use native.Mathlib.Omega.{arith}
 use lib.Dec.{leb, eqb}
-use Rattle.numbers.specs.Order.{Decides, Clear}
+use Rattle.numbers.specs.Order.{Decides, Clear, pick, decision}
+use Rattle.numbers.specs.declared.deciding.Decision.{Decision}
+use Rattle.numbers.specs.declared.deciding.Decision.the-variants.{Met, Unmet}
 use Rattle.numbers.specs.declared.Found as found
 use Rattle.numbers.specs.declared.Found.the-variants as index
 use Rattle.numbers.proofs.Truth.{Tells, not-both, tells-not, tells-above, tells-divides}
-use Rattle.numbers.proofs.Order.{Finds, finds-whole, Decision, met, clear, pick, decision, met-exactly, clear-exactly}
+use Rattle.numbers.proofs.Order.{Finds, finds-whole, met-exactly, clear-exactly}
 use Rattle.products.specs.Products.{priceLimit, find}
 use Rattle.pricing.specs.Ladder.{bracket}
 use Rattle.pricing.specs.Value.{scale, bondDivisor, valueBy}
@@ -92,8 +94,8 @@ module _ (code : Code) (p : ℕ) where
 
 -- the refusal that a decision says, else the answer a
 abbrev answerBy : Decision → Answer → Answer
-answerBy (met k i) a = refused k i
-answerBy clear a = a
+answerBy (Met k i) a = refused k i
+answerBy Unmet a = a
 
 abbrev decide : Found → ℕ → List Fault → Decision
 decide f p = decision faultNumber (finding f p)
@@ -105,7 +107,7 @@ by-price true true a rest = refl
 by-price true false a rest = refl
 by-price false d a rest = refl
 
-by-next : (b : Bool) (a : Answer) → check 15 b a ≡ answerBy (pick (cond (not b) (index.At 0) index.Nothing) 15 clear) a
+by-next : (b : Bool) (a : Answer) → check 15 b a ≡ answerBy (pick (cond (not b) (index.At 0) index.Nothing) 15 Unmet) a
 by-next true a = refl
 by-next false a = refl
 
@@ -130,7 +132,7 @@ bracketIn p Missing = 0
 by-value : (f : Found) (p : ℕ) → ofProduct f (λ q. after (judged (q .tick) p) (given (valueBy (q .terms) p))) ≡ answerBy (decide f p valueFaults) (given (valueIn p f))
 unfolding judged
 by-value Missing p = refl
-by-value (At q) p = by-price (leb p priceLimit) (eqb (p % q .tick) 0) (given (valueBy (q .terms) p)) clear
+by-value (At q) p = by-price (leb p priceLimit) (eqb (p % q .tick) 0) (given (valueBy (q .terms) p)) Unmet
 
 by-tick-value : (f : Found) (p : ℕ)
     → ofProduct f (λ q. after (judged (q .tick) p) (check 15 (leb (p + q .tick) priceLimit) (given (valueBy (q .terms) (p + q .tick) - valueBy (q .terms) p))))
@@ -140,7 +142,7 @@ by-tick-value Missing p = refl
 by-tick-value (At q) p =
     let a = given (valueBy (q .terms) (p + q .tick) - valueBy (q .terms) p) in
     ap (after (judged (q .tick) p)) (by-next (leb (p + q .tick) priceLimit) a)
-    ∙ by-price (leb p priceLimit) (eqb (p % q .tick) 0) a (pick (cond (not (leb (p + q .tick) priceLimit)) (index.At 0) index.Nothing) 15 clear)
+    ∙ by-price (leb p priceLimit) (eqb (p % q .tick) 0) a (pick (cond (not (leb (p + q .tick) priceLimit)) (index.At 0) index.Nothing) 15 Unmet)
 
 by-bracket : (f : Found) (p : ℕ)
     → ofProduct f (λ q. ofBond (q .terms) (λ c n. after (judged (q .tick) p) (given (bracket scale c n (bondDivisor p)))))
@@ -150,22 +152,22 @@ by-bracket Missing p = refl
 by-bracket (At q) p = by-terms (q .terms)
   where
     by-terms : (t : Terms) → ofBond t (λ c n. after (judged (q .tick) p) (given (bracket scale c n (bondDivisor p))))
-        ≡ answerBy (pick (cond (not (isBond t)) (index.At 0) index.Nothing) 4 (pick (cond (not (leb p priceLimit)) (index.At 0) index.Nothing) 6 (pick (cond (not (eqb (p % q .tick) 0)) (index.At 0) index.Nothing) 7 clear))) (given (bracketBy p t))
+        ≡ answerBy (pick (cond (not (isBond t)) (index.At 0) index.Nothing) 4 (pick (cond (not (leb p priceLimit)) (index.At 0) index.Nothing) 6 (pick (cond (not (eqb (p % q .tick) 0)) (index.At 0) index.Nothing) 7 Unmet))) (given (bracketBy p t))
     by-terms (Bill face days) = refl
     by-terms (CashRate cents) = refl
-    by-terms (Bond face c n) = by-price (leb p priceLimit) (eqb (p % q .tick) 0) (given (bracket scale c n (bondDivisor p))) clear
+    by-terms (Bond face c n) = by-price (leb p priceLimit) (eqb (p % q .tick) 0) (given (bracket scale c n (bondDivisor p))) Unmet
 
 -- ---- exactly
 
 -- a call with these checks, whose answer goes by their decision
 module _ (code : Code) (p : ℕ) (faults : List Fault) (answer : Answer) (n : ℕ) (by : answer ≡ answerBy (decide (find code) p faults) (given n)) where
-  refused-by : (d : Decision) {k i : ℕ} → answerBy d (given n) ≡ refused k i → d ≡ met k i
-  refused-by (met k i) e = cc
-  refused-by clear e = absurd (let z : _≡_ {A = ℕ} 0 1 = cc in omega arith)
+  refused-by : (d : Decision) {k i : ℕ} → answerBy d (given n) ≡ refused k i → d ≡ Met k i
+  refused-by (Met k i) e = cc
+  refused-by Unmet e = absurd (let z : _≡_ {A = ℕ} 0 1 = cc in omega arith)
 
-  given-by : (d : Decision) {m : ℕ} → answerBy d (given n) ≡ given m → d ≡ clear
-  given-by (met k i) e = absurd (let z : _≡_ {A = ℕ} 0 1 = cc in omega arith)
-  given-by clear e = refl
+  given-by : (d : Decision) {m : ℕ} → answerBy d (given n) ≡ given m → d ≡ Unmet
+  given-by (Met k i) e = absurd (let z : _≡_ {A = ℕ} 0 1 = cc in omega arith)
+  given-by Unmet e = refl
 
   refused-exactly : {k i : ℕ} → (answer ≡ refused k i) ↔ Decides faultNumber (Holds code p) faults k i
   refused-exactly = (

@@ -1,5 +1,5 @@
 -- A file that is accepted, and its positions.
-use mathlib.Core.Path.{_≡_, refl}
+use mathlib.Core.Path.{_≡_, refl, sym, ap, _∙_}
 use mathlib.Core.Bool.{Bool, true, false, cond}
 use mathlib.Core.List.{List}
 use Prim.Native.Nat.{ℕ, _≤_}
@@ -10,17 +10,16 @@ use lib.ListN.{length}
 use borrow.Author.Tests.{ltb-false, le-ltb}
 use Rattle.dayfile.specs.Limits.{Limits}
 use Rattle.dayfile.specs.Records.{Lists}
-use Rattle.dayfile.specs.Layout.{listsOfFile, openedOf, listsIn}
-use Rattle.checks.specs.Checks.{verdictOf}
-use Rattle.checks.specs.Steps.{Accepted}
-use Rattle.dayfile.specs.declared.file.Opened.{Opened}
-use Rattle.dayfile.specs.declared.file.Opened.the-variants.{File, Refused}
-use Rattle.checks.specs.declared.order.Verdict.{Verdict}
-use Rattle.checks.specs.declared.order.Verdict.the-variants.{Passed, Failed}
+use Rattle.dayfile.specs.Layout.{listsOfFile}
+use Rattle.numbers.specs.Checks.{decisionOf}
+use Rattle.numbers.specs.declared.deciding.Decision.{Decision}
+use Rattle.numbers.specs.declared.deciding.Decision.the-variants.{Met, Unmet}
+use Rattle.checks.specs.Judging.{recordChecks, fileChecks}
 use Rattle.dayfile.proofs.Opening.{Laid, opens, laid-opens}
-use Rattle.checks.proofs.Passed.{mark-in, lots-in}
-use Rattle.settlement.specs.Settling.{settled, accept, refuse, listsPlan, openedPlan, planOf, answerBy, answerOf}
-use Rattle.settlement.specs.Steps.{Payable, Named}
+use Rattle.checks.proofs.Passed.{passed-parts, parts-passed, mark-in, lots-in}
+use Rattle.settlement.specs.Settling.{settled, accept, refuse, planOf, answerBy, answerOf}
+use Rattle.settlement.specs.Steps.{Accepted, Payable, Named}
+use Rattle.settlement.proofs.Plans.{planFrom, plan-decided}
 
 pub payable : (l : Lists) → Accepted l → Payable (l .positions)
 payable l a =
@@ -35,30 +34,25 @@ named l a = record { few = a .small .marks; mark = λ i h. mark-in l (a .passed)
 
 pub record AcceptedFile (l : Limits) (f : List ℕ) (places : ℕ) : Type 0 where
   pub laid : Laid l f
-  pub passed : verdictOf (listsOfFile f) ≡ Passed
+  pub passed : decisionOf (recordChecks (listsOfFile f)) ≡ Unmet
   pub room : length (listsOfFile f .positions) ≤ places
 
 module _ (l : Limits) (f : List ℕ) (places : ℕ) where
   pub accepted-plan : AcceptedFile l f places → planOf l f places ≡ accept (listsOfFile f)
-  unfolding planOf
-  accepted-plan h = rw (laid-opens l f (h .laid), h .passed, le-ltb _ _ (h .room))
+  accepted-plan h = plan-decided l f places ∙ rw (parts-passed l f (laid-opens l f (h .laid)) (h .passed), le-ltb _ _ (h .room))
 
-  room-ok : (ls : Lists) (t : Bool) → ltb places (length (ls .positions)) ≡ t → {n k : ℕ} {x y : ℤ} → answerBy (cond t (refuse 14 0) (accept ls)) ≡ settled n x y k → length (ls .positions) ≤ places
-  room-ok ls true q p = absurd (let z : _≡_ {A = ℕ} 0 1 = cc in omega arith)
-  room-ok ls false q p = ltb-false _ _ q
+  room-ok : (t : Bool) → ltb places (length (listsOfFile f .positions)) ≡ t → {n k : ℕ} {x y : ℤ} → answerBy (cond t (refuse 14 0) (accept (listsOfFile f))) ≡ settled n x y k
+      → length (listsOfFile f .positions) ≤ places
+  room-ok true q p = absurd (let z : _≡_ {A = ℕ} 0 1 = cc in omega arith)
+  room-ok false q p = ltb-false _ _ q
 
-  lists-ok : (ls : Lists) (v : Verdict) {n k : ℕ} {x y : ℤ} → answerBy (listsPlan ls v places) ≡ settled n x y k → (v ≡ Passed) × (length (ls .positions) ≤ places)
-  lists-ok ls Passed p = (refl, room-ok ls (ltb places (length (ls .positions))) refl p)
-  lists-ok ls (Failed c i) p = absurd (let z : _≡_ {A = ℕ} 0 1 = cc in omega arith)
-
-  opened-ok : (o : Opened) → openedOf l f ≡ o → {n k : ℕ} {x y : ℤ} → answerBy (openedPlan f o places) ≡ settled n x y k → AcceptedFile l f places
-  opened-ok (Refused k) q p = absurd (let z : _≡_ {A = ℕ} 0 1 = cc in omega arith)
-  opened-ok (File d) q p =
-      let (h, e) = opens l f q in
-      let r = lists-ok (listsIn f d) (verdictOf (listsIn f d)) p in
-      record { laid = h; passed = rw e (r .0); room = rw e (r .1) }
+  by-decision : (d : Decision) → decisionOf (fileChecks l f) ≡ d → {n k : ℕ} {x y : ℤ} → answerBy (planFrom f places d) ≡ settled n x y k → AcceptedFile l f places
+  by-decision (Met k i) q p = absurd (let z : _≡_ {A = ℕ} 0 1 = cc in omega arith)
+  by-decision Unmet q p =
+      let (o, passed) = passed-parts l f q in
+      record { laid = opens l f o .0; passed = passed; room = room-ok (ltb places (length (listsOfFile f .positions))) refl p }
 
   -- a file is accepted where its answer is a settlement
   pub settled-accepted : {n k : ℕ} {x y : ℤ} → answerOf l f places ≡ settled n x y k → AcceptedFile l f places
-  unfolding answerOf planOf
-  settled-accepted p = opened-ok (openedOf l f) refl p
+  unfolding answerOf
+  settled-accepted p = by-decision (decisionOf (fileChecks l f)) refl (ap answerBy (sym (plan-decided l f places)) ∙ p)

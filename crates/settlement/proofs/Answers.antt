@@ -13,10 +13,11 @@ use Rattle.pricing.specs.Value.{billDividend, billDivisor, valueBy}
 use Rattle.pricing.specs.Calls.{judged, valueOf}
 use Rattle.dayfile.specs.Limits.{fileLimits}
 use Rattle.dayfile.specs.Records.{markAt, correctionAt, positionAt}
-use Rattle.dayfile.specs.Layout.{countsOf, openedOf}
+use Rattle.dayfile.specs.Layout.{countsOf}
 use Rattle.dayfile.specs.Making.{countsIn, entryBytes, headerOf, madeOf}
 use Rattle.checks.specs.Table.{listed, quoted, tickOf}
-use Rattle.checks.specs.Checks.{verdictOf}
+use Rattle.numbers.specs.Checks.{decisionOf}
+use Rattle.checks.specs.Judging.{judgedOf}
 use Rattle.settlement.specs.Worths.{worthOf}
 use Rattle.settlement.specs.Prices.{latestOf, finalOf, changeOf}
 use Rattle.settlement.specs.Settling.{amountOf, totalOf, Answer, settled, refused, planOf, answerOf}
@@ -106,5 +107,5 @@ files =
     ∷ []
 
 pub files-answered : map (λ x. answerOf fileLimits (x .file) 2) files ≡ map (λ x. x .answer) files
-unfolding files nearest par priceLimit yieldAt products sameCode findIn find hasMonth billDividend billDivisor valueBy judged valueOf u32Bytes u32At signed recordsOf first some markAt correctionAt positionAt listed quoted tickOf currencyOf worthOf verdictOf countsOf openedOf latestOf finalOf changeOf amountOf totalOf planOf answerOf countsIn entryBytes headerOf madeOf
+unfolding files nearest par priceLimit yieldAt products sameCode findIn find hasMonth billDividend billDivisor valueBy judged valueOf u32Bytes u32At signed recordsOf first some markAt correctionAt positionAt listed quoted tickOf currencyOf worthOf decisionOf judgedOf countsOf latestOf finalOf changeOf amountOf totalOf planOf answerOf countsIn entryBytes headerOf madeOf
 files-answered = refl

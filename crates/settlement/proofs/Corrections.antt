@@ -4,24 +4,24 @@ use mathlib.Core.Bool.{Bool, true, false, not, _&&_, _||_}
 use mathlib.Core.List.{List}
 use Prim.Native.Nat.{ℕ, _<_}
 use native.Mathlib.Omega.{arith}
-use lib.Dec.{eqb, ltb}
+use lib.Dec.{leb, eqb, ltb}
 use lib.ListN.{length}
 use borrow.Author.Tests.{eqb-true, eq-eqb, ltb-true, ltb-false}
-use Rattle.numbers.specs.Folds.{first, some}
+use Rattle.numbers.specs.Folds.{repeating, first}
 use Rattle.dayfile.specs.Records.{Lists, correctionAt, markAt}
-use Rattle.checks.specs.Faults.{clashing, noMark, badPrice}
-use Rattle.checks.specs.Checks.{ruleOf, findingOf, verdictOf}
+use Rattle.numbers.specs.Checks.{decisionOf, findingOf}
+use Rattle.numbers.specs.declared.deciding.Decision.the-variants.{Unmet}
+use Rattle.checks.specs.Corrections.{badPrice, clashing, clashPair, CorrectionCheck, CorrectionMark, CorrectionPrice, CorrectionClash, correctionChecks}
+use Rattle.checks.specs.Judging.{recordChecks}
 use Rattle.settlement.specs.Prices.{AllIn}
 use Rattle.dayfile.specs.declared.records.Mark.{Mark}
 use Rattle.dayfile.specs.declared.records.Correction.{Correction}
 use Rattle.dayfile.specs.declared.records.Position.{Position}
 use Rattle.numbers.specs.declared.Found.the-variants.{Nothing}
-use Rattle.checks.specs.declared.order.Check.{Check}
-use Rattle.checks.specs.declared.order.Check.the-variants.{Code, Date, PriceLimit, Tick, MarkRepeated, CorrectionMark, CorrectionPrice, CorrectionClash, PositionMark, Lots}
-use Rattle.checks.specs.declared.order.Verdict.the-variants.{Passed}
 use Rattle.numbers.proofs.Truth.{eqb-comm}
-use Rattle.numbers.proofs.Searches.{first-clear, clear-first, some-clear, clear-some}
-use Rattle.checks.proofs.Passed.{clear, passes}
+use Rattle.numbers.proofs.Searches.{clear-first, some-clear, clear-some}
+use Rattle.numbers.proofs.Checks.{unmet}
+use Rattle.checks.proofs.Passed.{parts, whole, correction-passes}
 
 abbrev pub listsWith : List Mark → List Position → List Correction → Lists
 listsWith ms ps cs = record { marks = ms; corrections = cs; positions = ps }
@@ -49,11 +49,11 @@ one-price a b e q = eqb-true (a .price) (b .price) (last (eqb (a .mark) (b .mark
 abbrev pub Apart : List Correction → Type 0
 Apart cs = (i j : ℕ) → i < length cs → j < length cs → clashing (correctionAt cs i) (correctionAt cs j) ≡ false
 
-module _ (ms : List Mark) (ps : List Position) (cs : List Correction) (passed : verdictOf (listsWith ms ps cs) ≡ Passed) where
+module _ (ms : List Mark) (ps : List Position) (cs : List Correction) (passed : decisionOf (recordChecks (listsWith ms ps cs)) ≡ Unmet) where
   later : (i j : ℕ) → i < length cs → j < i → clashing (correctionAt cs i) (correctionAt cs j) ≡ false
   later i j hi hj =
       some-clear (λ k. clashing (correctionAt cs i) (correctionAt cs k)) i j
-      (first-clear (ruleOf (listsWith ms ps cs) CorrectionClash .test) (length cs) i (clear (listsWith ms ps cs) passed CorrectionClash) hi) hj
+      (correction-passes (listsWith ms ps cs) passed i CorrectionClash hi) hj
 
   pub apart : Apart cs
   apart i j hi hj = go (ltb j i) refl (ltb i j) refl
@@ -65,31 +65,25 @@ module _ (ms : List Mark) (ps : List Position) (cs : List Correction) (passed : 
           let e : i ≡ j = omega (arith, ltb-false j i p, ltb-false i j q) in rw e (clash-self (correctionAt cs j))
 
   -- the same corrections, in another order or more often: they pass too
-  pub still-passes : (ds : List Correction) → AllIn ds cs → verdictOf (listsWith ms ps ds) ≡ Passed
-  still-passes ds back = passes (listsWith ms ps ds) still
+  pub still-passes : (ds : List Correction) → AllIn ds cs → decisionOf (recordChecks (listsWith ms ps ds)) ≡ Unmet
+  still-passes ds back =
+      let p = parts (listsWith ms ps cs) passed in
+      whole (listsWith ms ps ds) (p .0) (unmet (correctionChecks ms ds) (λ c m. still c)) (p .2)
     where
-      each : (t : Correction → Bool) → first (λ i. t (correctionAt cs i)) (length cs) ≡ Nothing → first (λ i. t (correctionAt ds i)) (length ds) ≡ Nothing
-      each t h =
-          clear-first (λ i. t (correctionAt ds i)) (length ds)
-          (λ j hj. let (i, hi, e) = back j hj in ap t (sym e) ∙ first-clear (λ i. t (correctionAt cs i)) (length cs) i h hi)
+      -- a test of one correction
+      each : (t : Correction → Bool) → ((i : ℕ) → i < length cs → t (correctionAt cs i) ≡ false) → first (λ i. t (correctionAt ds i)) (length ds) ≡ Nothing
+      each t h = clear-first (λ i. t (correctionAt ds i)) (length ds) (λ j hj. let (i, hi, e) = back j hj in ap t (sym e) ∙ h i hi)
 
-      clashes : first (λ i. some (λ k. clashing (correctionAt ds i) (correctionAt ds k)) i) (length ds) ≡ Nothing
+      clashes : first (repeating (clashPair ds)) (length ds) ≡ Nothing
       clashes =
-          clear-first (λ i. some (λ k. clashing (correctionAt ds i) (correctionAt ds k)) i) (length ds)
-          (λ i hi. clear-some (λ k. clashing (correctionAt ds i) (correctionAt ds k)) i
+          clear-first (repeating (clashPair ds)) (length ds)
+          (λ i hi. clear-some (clashPair ds i) i
           (λ k hk.
           let (i′, hi′, e) = back i hi in
           let (k′, hk′, f) = back k (omega arith) in
           ap₂ clashing (sym e) (sym f) ∙ apart i′ k′ hi′ hk′))
 
-      still : (c : Check) → findingOf (listsWith ms ps ds) c ≡ Nothing
-      still Code = clear (listsWith ms ps cs) passed Code
-      still Date = clear (listsWith ms ps cs) passed Date
-      still PriceLimit = clear (listsWith ms ps cs) passed PriceLimit
-      still Tick = clear (listsWith ms ps cs) passed Tick
-      still MarkRepeated = clear (listsWith ms ps cs) passed MarkRepeated
-      still CorrectionMark = each (λ c. noMark ms (c .mark)) (clear (listsWith ms ps cs) passed CorrectionMark)
-      still CorrectionPrice = each (λ c. badPrice (markAt ms (c .mark)) c) (clear (listsWith ms ps cs) passed CorrectionPrice)
+      still : (c : CorrectionCheck) → findingOf (correctionChecks ms ds) c ≡ Nothing
+      still CorrectionMark = each (λ c. leb (length ms) (c .mark)) (λ i h. correction-passes (listsWith ms ps cs) passed i CorrectionMark h)
+      still CorrectionPrice = each (λ c. badPrice (markAt ms (c .mark)) (c .price)) (λ i h. correction-passes (listsWith ms ps cs) passed i CorrectionPrice h)
       still CorrectionClash = clashes
-      still PositionMark = clear (listsWith ms ps cs) passed PositionMark
-      still Lots = clear (listsWith ms ps cs) passed Lots

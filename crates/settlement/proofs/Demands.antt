@@ -21,9 +21,10 @@ use Rattle.dayfile.specs.Limits.{Limits, fileLimits}
 use Rattle.dayfile.specs.Records.{markAt, correctionAt}
 use Rattle.dayfile.specs.Layout.{countsOf, listsOfFile}
 use Rattle.products.specs.Products.{currencyOf}
-use Rattle.settlement.specs.Conditions.{reasonNumber, reasons, TurnedAway, NotTurnedAway}
+use Rattle.numbers.specs.Checks.{numberOf}
+use Rattle.settlement.specs.Conditions.{settlementChecks, TurnedAway, NotTurnedAway}
 use Rattle.settlement.specs.Prices.{finalOf, FinalPrice, AllIn}
-use Rattle.checks.specs.Judging.{resentOf}
+use Rattle.checks.specs.Corrections.{resentOf}
 use Rattle.settlement.specs.Settling.{keepOf, positionIn, markIn, previousIn, finalIn, Answer, settled, refused, totals, planOf, answerOf, amountsAfter}
 use Rattle.settlement.specs.Prices.FinalPrice.{corrected, uncorrected}
 use Rattle.settlement.specs.Resend.{SentAgain, correctionRecords, Resent}
@@ -39,6 +40,7 @@ use Rattle.settlement.proofs.FinalPrices as prices
 use Rattle.settlement.proofs.Values.{amount-valued}
 use Rattle.numbers.proofs.Signs.{difference-is, keeps-above, keeps-below}
 use Rattle.settlement.proofs.Accepted.{settled-accepted}
+use Rattle.settlement.proofs.Plans.{refused-answer}
 use Rattle.settlement.proofs.Slices as slices
 use Rattle.settlement.proofs.Refusals.{refused-exactly, accepted-exactly}
 use Rattle.settlement.proofs.Resending as resending
@@ -70,13 +72,13 @@ pub demand-2-accepted : (l : Limits) (f : List ℕ) (places : ℕ) → (answerOf
 demand-2-accepted l f places = accepted-exactly l f places
 
 -- The checks stand in the order of their numbers.
-pub numbers-in-order : map reasonNumber reasons ≡ 1 ∷ 2 ∷ 3 ∷ 4 ∷ 5 ∷ 6 ∷ 7 ∷ 8 ∷ 9 ∷ 10 ∷ 11 ∷ 12 ∷ 13 ∷ 14 ∷ []
-numbers-in-order = refl
+pub numbers-in-order : (l : Limits) (f : List ℕ) (places : ℕ)
+    → map (numberOf (settlementChecks l f places)) (settlementChecks l f places .order) ≡ 1 ∷ 2 ∷ 3 ∷ 4 ∷ 5 ∷ 6 ∷ 7 ∷ 8 ∷ 9 ∷ 10 ∷ 11 ∷ 12 ∷ 13 ∷ 14 ∷ []
+numbers-in-order l f places = refl
 
 -- A file that is longer than one with as many records as the limits allow, 24 + 12 times (256 + 512 + 4,096) bytes, is refused with 2 or 3.
 pub too-long : (f : List ℕ) (places : ℕ) → 58392 < length f → (answerOf fileLimits f places ≡ refused 2 0) ⊎ (answerOf fileLimits f places ≡ refused 3 0)
-unfolding answerOf planOf
-too-long f places h = ⊎-elim (λ e. inl (rw e)) (λ e. inr (rw e)) (opening.too-long f h)
+too-long f places h = ⊎-elim (λ e. inl (refused-answer fileLimits f places e)) (λ e. inr (refused-answer fileLimits f places e)) (opening.too-long f h)
 
 -- N is the header's count of positions, and the lists of an accepted file have as many records as its header counts.
 pub header-counts : (l : Limits) (f : List ℕ) (a : List ℤ) {n k : ℕ} {aud nzd : ℤ} → answerOf l f (length a) ≡ settled n aud nzd k

@@ -15,8 +15,9 @@ use Rattle.dayfile.specs.Limits.{fileLimits}
 use Rattle.dayfile.specs.Records.{markAt, correctionAt, positionAt}
 use Rattle.checks.specs.Table.{listed, quoted, tickOf}
 use Rattle.settlement.specs.Worths.{worthOf}
-use Rattle.checks.specs.Checks.{verdictOf}
-use Rattle.dayfile.specs.Layout.{countsOf, openedOf}
+use Rattle.numbers.specs.Checks.{decisionOf}
+use Rattle.checks.specs.Judging.{judgedOf}
+use Rattle.dayfile.specs.Layout.{countsOf}
 use Rattle.settlement.specs.Prices.{latestOf, finalOf, changeOf}
 use Rattle.settlement.specs.Settling.{amountOf, totalOf, settled, refused, planOf, answerOf, amountsAfter}
 use Rattle.dayfile.specs.Making.{countsIn, entryBytes, headerOf, madeOf}
@@ -48,7 +49,7 @@ case-made = refl
 pub case-settled : (answerOf fileLimits caseFile 2 ≡ settled 2 (pos 14436) (pos 0) 1)
     × (amountsAfter fileLimits caseFile (pos 1 ∷ pos 2 ∷ pos 3 ∷ []) ≡ pos 24060 ∷ negsuc 9623 ∷ pos 3 ∷ [])
     × (answerOf fileLimits caseFile 1 ≡ refused 14 0)
-unfolding marks corrections positions caseFile nearest par priceLimit yieldAt products sameCode findIn find hasMonth billDividend billDivisor valueBy judged valueOf u32At signed recordsOf first some markAt correctionAt positionAt listed quoted tickOf currencyOf worthOf verdictOf countsOf openedOf latestOf finalOf changeOf amountOf totalOf planOf answerOf amountsAfter
+unfolding marks corrections positions caseFile nearest par priceLimit yieldAt products sameCode findIn find hasMonth billDividend billDivisor valueBy judged valueOf u32At signed recordsOf first some markAt correctionAt positionAt listed quoted tickOf currencyOf worthOf decisionOf judgedOf countsOf latestOf finalOf changeOf amountOf totalOf planOf answerOf amountsAfter
 case-settled = (refl, refl, refl)
 
 -- Two marks, IR as above and BB 6 19 from 940,000 to 940,100, which no correction names; between two copies of the correction one with a lower
@@ -64,7 +65,7 @@ twoMarks =
 -- the higher number decides, today's price stands where no correction does, and each currency has its own total
 pub two-marks-settled : (answerOf fileLimits twoMarks 2 ≡ settled 2 (pos 24060) (negsuc 9575) 1)
     × (amountsAfter fileLimits twoMarks (pos 1 ∷ pos 2 ∷ []) ≡ pos 24060 ∷ negsuc 9575 ∷ [])
-unfolding twoMarks nearest par priceLimit yieldAt products sameCode findIn find hasMonth billDividend billDivisor valueBy judged valueOf u32At signed recordsOf first some markAt correctionAt positionAt listed quoted tickOf currencyOf worthOf verdictOf countsOf openedOf latestOf finalOf changeOf amountOf totalOf planOf answerOf amountsAfter
+unfolding twoMarks nearest par priceLimit yieldAt products sameCode findIn find hasMonth billDividend billDivisor valueBy judged valueOf u32At signed recordsOf first some markAt correctionAt positionAt listed quoted tickOf currencyOf worthOf decisionOf judgedOf countsOf latestOf finalOf changeOf amountOf totalOf planOf answerOf amountsAfter
 two-marks-settled = (refl, refl)
 
 -- a count of 0 and an offset of 24
@@ -74,5 +75,5 @@ noRecords = 0 ∷ 0 ∷ 0 ∷ 0 ∷ 24 ∷ 0 ∷ 0 ∷ 0 ∷ []
 -- 23 bytes, and 24 bytes with counts 0 and offsets 24
 pub empty-settled : (answerOf fileLimits (replicate 23 0) 0 ≡ refused 1 0)
     × (answerOf fileLimits (noRecords ++ noRecords ++ noRecords) 0 ≡ settled 0 (pos 0) (pos 0) 0)
-unfolding noRecords u32At recordsOf first verdictOf countsOf openedOf totalOf planOf answerOf
+unfolding noRecords u32At recordsOf first decisionOf judgedOf countsOf totalOf planOf answerOf
 empty-settled = (refl, refl)

@@ -2,7 +2,6 @@ pub mod Demands
 pub mod Example
 pub mod Answers
 pub mod Refusals
-pub mod Agreement
 pub mod Slices
 pub mod Values
 pub mod FinalPrices

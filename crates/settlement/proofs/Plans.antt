@@ -8,20 +8,24 @@ use lib.ListN.{length}
 use lib.IntN.{ℤ}
 use Rattle.dayfile.specs.Limits.{Limits, fileLimits}
 use Rattle.dayfile.specs.Records.{Lists}
-use Rattle.dayfile.specs.Layout.{openedOf, listsIn}
-use Rattle.checks.specs.Checks.{verdictOf}
-use Rattle.checks.specs.Judging.{resentOf, judgedBy, judgedOpened, judgedOf}
+use Rattle.numbers.specs.Checks.{decisionOf}
+use Rattle.numbers.specs.declared.deciding.Decision.{Decision}
+use Rattle.numbers.specs.declared.deciding.Decision.the-variants.{Met, Unmet}
+use Rattle.dayfile.specs.Layout.{countsOf, listsIn, listsOfFile}
+use Rattle.dayfile.specs.Opening.{headerChecks, openedOf}
 use Rattle.dayfile.specs.declared.file.DayFile.{DayFile}
-use Rattle.dayfile.specs.declared.file.Opened.{Opened}
 use Rattle.dayfile.specs.declared.file.Opened.the-variants as opened
-use Rattle.checks.specs.declared.order.Verdict.{Verdict}
-use Rattle.checks.specs.declared.order.Verdict.the-variants.{Passed, Failed}
+use Rattle.dayfile.proofs.Refusals.{refused-decides}
+use Rattle.numbers.proofs.Checks.{decision-before}
+use Rattle.checks.specs.Corrections.{resentOf}
+use Rattle.checks.specs.Judging.{recordChecks, fileChecks, judgedBy, judgedOf}
 use Rattle.checks.specs.declared.judging.Judged.{Judged}
 use Rattle.checks.specs.declared.judging.Judged.the-variants as judged
 use Rattle.dayfile.proofs.Opening.{laid-out}
 use Rattle.dayfile.proofs.Parts.{small}
-use Rattle.settlement.specs.Settling.{settled, said, Plan, accept, refuse, roomPlan, listsPlan, openedPlan, planOf, answerOf, amountsAfter}
-use Rattle.settlement.specs.Steps.{Passing, Sound, Settles}
+use Rattle.checks.proofs.Passed.{passed-parts}
+use Rattle.settlement.specs.Settling.{settled, refused, said, answerBy, Plan, accept, refuse, roomPlan, judgedPlan, planOf, answerOf, amountsAfter}
+use Rattle.settlement.specs.Steps.{Passing, Settles}
 use Rattle.settlement.specs.declared.settling.Settlement.{Settlement}
 use Rattle.settlement.specs.declared.settling.Settlement.the-variants.{Refused}
 
@@ -46,50 +50,51 @@ settles-as e s = rw e s
 pub settles-of : (places : ℕ) {l m : Lists} {r : Settlement} {a b : List ℤ} → l ≡ m → Settles (roomPlan l places) r a b → Settles (roomPlan m places) r a b
 settles-of places e s = rw e at s
 
+pub passing-of : {l m : Lists} {r : ℕ} → l ≡ m → Passing m r → Passing l r
+passing-of e p = rw e p
+
 -- ---- from what a file is judged to be
 
--- the plan of a judged file
-abbrev pub judgedPlan : List ℕ → Judged → ℕ → Plan
-judgedPlan s (judged.Refused k i) places = refuse k i
-judgedPlan s (judged.Sound d r) places = roomPlan (listsIn s d) places
+-- the plan by what the checks decide
+abbrev pub planFrom : List ℕ → ℕ → Decision → Plan
+planFrom f places (Met k i) = refuse k i
+planFrom f places Unmet = roomPlan (listsOfFile f) places
 
-module _ (s : List ℕ) where
-  by-verdict : (d : DayFile) (v : Verdict) (places : ℕ) → judgedPlan s (judgedBy (listsIn s d) d v) places ≡ listsPlan (listsIn s d) v places
-  by-verdict d (Failed c i) places = refl
-  by-verdict d Passed places = refl
+pub plan-decided : (l : Limits) (f : List ℕ) (places : ℕ) → planOf l f places ≡ planFrom f places (decisionOf (fileChecks l f))
+unfolding planOf judgedOf
+plan-decided l f places = go (decisionOf (fileChecks l f))
+  where
+    go : (d : Decision) → judgedPlan f places (judgedBy (countsOf f) (resentOf (listsOfFile f .corrections)) d) ≡ planFrom f places d
+    go (Met k i) = refl
+    go Unmet = refl
 
-  by-opened : (o : Opened) (places : ℕ) → judgedPlan s (judgedOpened s o) places ≡ openedPlan s o places
-  by-opened (opened.Refused k) places = refl
-  by-opened (opened.File d) places = by-verdict d (verdictOf (listsIn s d)) places
+-- a file that does not open
+pub refused-plan : (l : Limits) (f : List ℕ) (places : ℕ) {k : ℕ} → openedOf l f ≡ opened.Refused k → planOf l f places ≡ refuse k 0
+refused-plan l f places o = plan-decided l f places ∙ rw (decision-before (headerChecks l f) (recordChecks (listsOfFile f)), refused-decides l f o)
 
-  judged-plan : (l : Limits) (places : ℕ) → judgedPlan s (judgedOf l s) places ≡ planOf l s places
-  unfolding judgedOf planOf
-  judged-plan l places = by-opened (openedOf l s) places
+pub refused-answer : (l : Limits) (f : List ℕ) (places : ℕ) {k : ℕ} → openedOf l f ≡ opened.Refused k → answerOf l f places ≡ refused k 0
+unfolding answerOf
+refused-answer l f places o = ap answerBy (refused-plan l f places o)
 
-  pub answered : (a : List ℤ) {o q : Judged} {r : Settlement} {b : List ℤ} → o ≡ judgedOf fileLimits s → o ≡ q → Settles (judgedPlan s q (length a)) r a b
-      → (said r ≡ answerOf fileLimits s (length a)) × (b ≡ amountsAfter fileLimits s a)
-  unfolding answerOf amountsAfter
-  answered a e f g =
-      let h = settles-as (sym (judged-plan fileLimits (length a)) ∙ ap (λ j. judgedPlan s j (length a)) (sym e ∙ f)) g in
-      (h .answer, h .written)
+module _ (f : List ℕ) where
+  -- the plan carried out is the answer
+  pub answered : (a : List ℤ) {o q : Judged} {r : Settlement} {b : List ℤ} → o ≡ judgedOf fileLimits f → o ≡ q → Settles (judgedPlan f (length a) q) r a b
+      → (said r ≡ answerOf fileLimits f (length a)) × (b ≡ amountsAfter fileLimits f a)
+  unfolding answerOf amountsAfter planOf
+  answered a e g h =
+      let w = settles-as (ap (judgedPlan f (length a)) (sym e ∙ g)) h in
+      (w .answer, w .written)
 
-  sound-lists : (d : DayFile) (v : Verdict) {c : DayFile} {r : ℕ} → openedOf fileLimits s ≡ opened.File d → v ≡ verdictOf (listsIn s d)
-      → judgedBy (listsIn s d) d v ≡ judged.Sound c r → Sound s c r
-  sound-lists d (Failed b i) o p e = absurd (let z : _≡_ {A = ℕ} 0 1 = cc in omega arith)
-  sound-lists d Passed {c} {r} o p e =
-      let same : d ≡ c = cc in
-      let counted : resentOf (listsIn s d .corrections) ≡ r = cc in
-      let whole : Sound s d r = record { laid = laid-out s o; passed = sym p; counted = sym counted } in
-      rw same at whole
+  -- a sound file's lists passed
+  sound-by : (d : Decision) → decisionOf (fileChecks fileLimits f) ≡ d → {c : DayFile} {r : ℕ} → judgedBy (countsOf f) (resentOf (listsOfFile f .corrections)) d ≡ judged.Sound c r
+      → Passing (listsIn f c) r
+  sound-by (Met k i) e p = absurd (let z : _≡_ {A = ℕ} 0 1 = cc in omega arith)
+  sound-by Unmet e {c} {r} p =
+      let same : countsOf f ≡ c = cc in
+      let counted : resentOf (listsOfFile f .corrections) ≡ r = cc in
+      let (h, passed) = passed-parts fileLimits f e in
+      rw (← same) (record { accepted = record { small = small f (countsOf f) (laid-out f h); passed = passed }; counted = sym counted })
 
-  sound-opened : (o : Opened) {c : DayFile} {r : ℕ} → openedOf fileLimits s ≡ o → judgedOpened s o ≡ judged.Sound c r → Sound s c r
-  sound-opened (opened.Refused k) q e = absurd (let z : _≡_ {A = ℕ} 0 1 = cc in omega arith)
-  sound-opened (opened.File d) q e = sound-lists d (verdictOf (listsIn s d)) q refl e
-
-  pub sound : {o : Judged} {c : DayFile} {r : ℕ} → o ≡ judgedOf fileLimits s → o ≡ judged.Sound c r → Sound s c r
+  pub sound : {o : Judged} {c : DayFile} {r : ℕ} → o ≡ judgedOf fileLimits f → o ≡ judged.Sound c r → Passing (listsIn f c) r
   unfolding judgedOf
-  sound p e = sound-opened (openedOf fileLimits s) refl (sym p ∙ e)
-
--- its lists, within the file's limits
-pub passing : (s : List ℕ) (d : DayFile) {r : ℕ} → Sound s d r → Passing (listsIn s d) r
-passing s d w = record { accepted = record { small = small s d (w .laid); passed = w .passed }; counted = w .counted }
+  sound p e = sound-by (decisionOf (fileChecks fileLimits f)) refl (sym p ∙ e)

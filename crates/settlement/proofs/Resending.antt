@@ -1,5 +1,5 @@
 -- Corrections sent again: the file is accepted still, with the same prices and amounts, and more resent.
-use mathlib.Core.Path.{_≡_, refl, sym, ap, ap₂, _∙_}
+use mathlib.Core.Path.{_≡_, refl, sym, subst, ap, ap₂, _∙_}
 use mathlib.Core.List.{List, [], _∷_, map, List·Memᴰ, List·Memᴰ·head, List·Memᴰ·tail, Memᴰ·cast}
 use Prim.Native.Nat.{ℕ, zero, suc, _+_, _≤_, _<_}
 use native.Mathlib.Nat.{not-suc-le-zero, le-of-suc-le-suc}
@@ -8,14 +8,15 @@ use lib.IntN.{ℤ}
 use lib.ListN.{length, getD, take, length-map, List·getD-map}
 use Rattle.numbers.specs.Bytes.{u32At}
 use Rattle.dayfile.specs.Records.{Lists, correctionAt, correctionOf, marksIn, positionsIn}
-use Rattle.checks.specs.Checks.{verdictOf}
+use Rattle.numbers.specs.Checks.{decisionOf}
+use Rattle.numbers.specs.declared.deciding.Decision.the-variants.{Unmet}
+use Rattle.checks.specs.Judging.{recordChecks}
 use Rattle.dayfile.specs.Limits.{Limits}
 use Rattle.dayfile.specs.Layout.{listsOfFile, countsOf}
 use Rattle.settlement.specs.Prices.{AllIn, changeOf}
-use Rattle.checks.specs.Judging.{resentOf}
+use Rattle.checks.specs.Corrections.{resentOf}
 use Rattle.settlement.specs.Settling.{amountOf, changeIn, Answer, settled, refused, accept, answerOf, amountsAfter, totals}
 use Rattle.settlement.specs.Resend.{SentAgain, end, kept, copy, correctionRecords, Resent}
-use Rattle.checks.specs.declared.order.Verdict.the-variants.{Passed}
 use Rattle.numbers.proofs.Tables.{take-front}
 use Rattle.settlement.proofs.Corrections.{listsWith, apart, still-passes}
 use Rattle.settlement.proofs.FinalPrices.{same-finals}
@@ -99,11 +100,11 @@ module _ (l : Limits) (f g : List ℕ) (copies p q : ℕ) (r : Resent f g copies
   lists-are : listsOfFile g ≡ merged
   lists-are = ap₂ (λ ms ps. listsWith ms ps (listsOfFile g .corrections)) marks-same positions-same
 
-  passes : verdictOf merged ≡ Passed
+  passes : decisionOf (recordChecks merged) ≡ Unmet
   passes = still-passes (listsOfFile f .marks) (listsOfFile f .positions) (listsOfFile f .corrections) (acc .passed) (listsOfFile g .corrections) back
 
   pub still-accepted : length (listsOfFile f .positions) ≤ q → AcceptedFile l g q
-  still-accepted room = record { laid = in-line; passed = rw lists-are passes; room = rw positions-same room }
+  still-accepted room = record { laid = in-line; passed = subst (λ (ls : Lists). decisionOf (recordChecks ls) ≡ Unmet) (sym lists-are) passes; room = rw positions-same room }
 
   pub changes-same : changeIn merged ≡ changeIn (listsOfFile f)
   changes-same =

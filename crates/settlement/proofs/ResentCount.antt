@@ -9,7 +9,7 @@ use lib.ListN.{length}
 use Rattle.numbers.specs.Folds.{some, count}
 use Rattle.dayfile.specs.Records.{correctionAt}
 use Rattle.settlement.specs.Prices.{AllIn}
-use Rattle.checks.specs.Judging.{resentOf}
+use Rattle.checks.specs.Corrections.{resentOf}
 use Rattle.dayfile.specs.declared.records.Correction.{Correction}
 use Rattle.numbers.proofs.Searches.{some-clear, clear-some}
 use Rattle.numbers.proofs.Counting.{bears, different-and-repeated, ceiling, below-ceiling}

@@ -10,7 +10,8 @@ use Rattle.numbers.specs.Bytes.{Bytes, u32At, records, recordsOf, bytesOf}
 use Rattle.numbers.proofs.Bytes.{part-bytes, record-bytes, all-bytes}
 use Rattle.dayfile.specs.Records.{correctionSize, correctionOf, markSize, positionSize}
 use Rattle.dayfile.specs.Limits.{fileLimits}
-use Rattle.dayfile.specs.Layout.{countsOf, openedOf, markBytes, correctionBytes, positionBytes, headerSize, correctionsStart, positionsStart}
+use Rattle.dayfile.specs.Opening.{openedOf}
+use Rattle.dayfile.specs.Layout.{countsOf, markBytes, correctionBytes, positionBytes, headerSize, correctionsStart, positionsStart}
 use Rattle.settlement.specs.Settling.{settled, answerOf}
 use Rattle.settlement.specs.Resend.{SentAgain, correctionRecords, Resent}
 use Rattle.dayfile.specs.Making.{countsIn, madeOf}

@@ -11,8 +11,7 @@ use Rattle.numbers.specs.Folds.{front}
 use Rattle.dayfile.specs.Records.{Lists, markAt, positionAt}
 use Rattle.settlement.specs.Prices.{finalOf}
 use Rattle.settlement.specs.Settling.{keepOf, amountOf, netOf, shareOf, sumOfAmounts, totalOf, changeIn, paid}
-use Rattle.checks.specs.Steps.{Accepted}
-use Rattle.settlement.specs.Steps.{changesOf}
+use Rattle.settlement.specs.Steps.{Accepted, changesOf}
 use Rattle.numbers.specs.Integers.{entryOf}
 use Rattle.dayfile.specs.declared.records.Mark.{Mark}
 use Rattle.dayfile.specs.declared.records.Position.{Position}

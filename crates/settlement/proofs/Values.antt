@@ -9,16 +9,16 @@ use Rattle.products.specs.Products.{priceLimit}
 use Rattle.pricing.specs.Calls.{given, valueOf}
 use Rattle.dayfile.specs.Records.{Lists, markAt, correctionAt, positionAt}
 use Rattle.checks.specs.Table.{aboveLimit, listed, tickOf}
-use Rattle.checks.specs.Faults.{offTick}
-use Rattle.checks.specs.Checks.{ruleOf, verdictOf}
+use Rattle.numbers.specs.Checks.{decisionOf}
+use Rattle.numbers.specs.declared.deciding.Decision.the-variants.{Unmet}
+use Rattle.checks.specs.Marks.{offTick, MarkCode, MarkLimit, MarkTick}
+use Rattle.checks.specs.Corrections.{CorrectionPrice}
+use Rattle.checks.specs.Judging.{recordChecks}
 use Rattle.settlement.specs.Prices.{finalOf, changeOf, FinalPrice, corrected, uncorrected}
 use Rattle.settlement.specs.Settling.{amountOf, changeIn}
 use Rattle.dayfile.specs.declared.records.Mark.{Mark}
-use Rattle.checks.specs.declared.order.Check.{Check}
-use Rattle.checks.specs.declared.order.Check.the-variants.{Code, PriceLimit, Tick, CorrectionPrice}
-use Rattle.checks.specs.declared.order.Verdict.the-variants.{Passed}
-use Rattle.numbers.proofs.Searches.{first-clear, or-none}
-use Rattle.checks.proofs.Passed.{clear, mark-in}
+use Rattle.numbers.proofs.Searches.{or-none}
+use Rattle.checks.proofs.Passed.{mark-passes, correction-passes, mark-in}
 use Rattle.settlement.proofs.FinalPrices.{final-price-is}
 use Rattle.settlement.proofs.Pricing.{valued, worth-is}
 
@@ -33,20 +33,16 @@ allowed m p a b = record { low = ltb-false priceLimit p a; on-tick = eqb-true _ 
 allowed-as : (m : Mark) {p q : ℕ} → p ≡ q → Allowed m p → Allowed m q
 allowed-as m e a = rw e at a
 
-module _ (l : Lists) (passed : verdictOf l ≡ Passed) where
-  -- a test that no record fails
-  passes : (c : Check) (i : ℕ) → i < ruleOf l c .size → ruleOf l c .test i ≡ false
-  passes c i h = first-clear (ruleOf l c .test) (ruleOf l c .size) i (clear l passed c) h
-
+module _ (l : Lists) (passed : decisionOf (recordChecks l) ≡ Unmet) where
   module _ (m : ℕ) (h : m < length (l .marks)) where
     code-listed : listed (markAt (l .marks) m .code) ≡ true
-    code-listed = not-false _ (passes Code m h)
+    code-listed = not-false _ (mark-passes l passed m MarkCode h)
 
     low-both : (aboveLimit (markAt (l .marks) m .previous) ≡ false) × (aboveLimit (markAt (l .marks) m .today) ≡ false)
-    low-both = or-none _ _ (passes PriceLimit m h)
+    low-both = or-none _ _ (mark-passes l passed m MarkLimit h)
 
     on-both : (offTick (markAt (l .marks) m) (markAt (l .marks) m .previous) ≡ false) × (offTick (markAt (l .marks) m) (markAt (l .marks) m .today) ≡ false)
-    on-both = or-none _ _ (passes Tick m h)
+    on-both = or-none _ _ (mark-passes l passed m MarkTick h)
 
     previous-allowed : Allowed (markAt (l .marks) m) (markAt (l .marks) m .previous)
     previous-allowed = allowed _ _ (low-both .0) (on-both .0)
@@ -62,7 +58,7 @@ module _ (l : Lists) (passed : verdictOf l ≡ Passed) where
         by-price (corrected k hk named e max) =
             let c = correctionAt (l .corrections) k in
             let n = markAt (l .marks) (c .mark) in
-            let q = or-none (aboveLimit (c .price)) (offTick n (c .price)) (passes CorrectionPrice k hk) in
+            let q = or-none (aboveLimit (c .price)) (offTick n (c .price)) (correction-passes l passed k CorrectionPrice hk) in
             rw named at (allowed-as n e (allowed n (c .price) (q .0) (q .1)))
 
     -- the value at a price that is allowed

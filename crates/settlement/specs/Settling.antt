@@ -2,7 +2,7 @@
 use Prim.Native.Nat.{ℕ}
 use mathlib.Core.Bool.{cond}
 use mathlib.Core.List.{List}
-use lib.Dec.{eqb, ltb}
+use lib.Dec.{eqb}
 use lib.IntN.{ℤ, pos, _*ℤ_}
 use lib.ListN.{length}
 use Rattle.products.specs.declared.table.Currency.{Currency}
@@ -11,16 +11,15 @@ use Rattle.products.specs.Products.{currencyOf}
 use Rattle.numbers.specs.Folds.{front, sum}
 use Rattle.dayfile.specs.Limits.{Limits}
 use Rattle.dayfile.specs.Records.{Lists, markAt, positionAt}
-use Rattle.checks.specs.Checks.{verdictOf, numberOf}
-use Rattle.checks.specs.Judging.{resentOf}
-use Rattle.dayfile.specs.Layout.{openedOf, listsIn, listsOfFile}
+use Rattle.checks.specs.Corrections.{resentOf}
+use Rattle.checks.specs.Judging.{judgedOf}
+use Rattle.checks.specs.declared.judging.Judged.{Judged}
+use Rattle.checks.specs.declared.judging.Judged.the-variants as judged
+use Rattle.dayfile.specs.Layout.{listsIn, listsOfFile}
+use Rattle.settlement.specs.Conditions.{roomCheck}
 use Rattle.settlement.specs.Prices.{finalOf, changeOf}
 use Rattle.dayfile.specs.declared.records.Mark.{Mark}
 use Rattle.dayfile.specs.declared.records.Position.{Position}
-use Rattle.dayfile.specs.declared.file.Opened.{Opened}
-use Rattle.dayfile.specs.declared.file.Opened.the-variants as opened
-use Rattle.checks.specs.declared.order.Verdict.{Verdict}
-use Rattle.checks.specs.declared.order.Verdict.the-variants.{Passed, Failed}
 use Rattle.settlement.specs.declared.settling.Settlement.{Settlement}
 use Rattle.settlement.specs.declared.settling.Settlement.the-variants.{Settled, Refused}
 
@@ -91,24 +90,17 @@ pub data Plan : Type 0 where
   accept : Lists → Plan
   refuse : ℕ → ℕ → Plan
 
--- check 14, after the checks over the records
+-- check 14, after the others
 abbrev pub roomPlan : Lists → ℕ → Plan
-roomPlan ls places = cond (ltb places (length (ls .positions))) (refuse 14 0) (accept ls)
+roomPlan ls places = cond (roomCheck ls places .test 0) (refuse (roomCheck ls places .number) 0) (accept ls)
 
-abbrev pub listsPlan : Lists → Verdict → ℕ → Plan
-listsPlan ls (Failed c i) places = refuse (numberOf c) i
-listsPlan ls Passed places = roomPlan ls places
-
-abbrev pub planFor : Lists → ℕ → Plan
-planFor ls places = listsPlan ls (verdictOf ls) places
-
-abbrev pub openedPlan : List ℕ → Opened → ℕ → Plan
-openedPlan f (opened.Refused k) places = refuse k 0
-openedPlan f (opened.File d) places = planFor (listsIn f d) places
+abbrev pub judgedPlan : List ℕ → ℕ → Judged → Plan
+judgedPlan f places (judged.Refused k i) = refuse k i
+judgedPlan f places (judged.Sound counts resent) = roomPlan (listsIn f counts) places
 
 -- what is to be done with a file, for a slice of so many places
 unfoldable pub planOf : Limits → List ℕ → ℕ → Plan
-planOf l f places = openedPlan f (openedOf l f) places
+planOf l f places = judgedPlan f places (judgedOf l f)
 
 abbrev pub answerBy : Plan → Answer
 answerBy (refuse k i) = refused k i

@@ -11,18 +11,16 @@ use Rattle.numbers.specs.Folds.{front, sum}
 use Rattle.numbers.specs.Integers.{entryOf}
 use Rattle.dayfile.specs.Limits.{fileLimits, lotsLimit}
 use Rattle.dayfile.specs.Records.{Lists, markAt, positionAt}
-use Rattle.dayfile.specs.Layout.{listsIn}
 use Rattle.products.specs.Products.{currencyOf}
-use Rattle.checks.specs.Checks.{verdictOf}
-use Rattle.checks.specs.Judging.{resentOf}
-use Rattle.dayfile.specs.Steps.{LaidOut}
-use Rattle.checks.specs.Steps.{Accepted}
+use Rattle.numbers.specs.Checks.{decisionOf}
+use Rattle.numbers.specs.declared.deciding.Decision.the-variants.{Unmet}
+use Rattle.checks.specs.Corrections.{resentOf}
+use Rattle.checks.specs.Judging.{recordChecks}
+use Rattle.dayfile.specs.Steps.{Small}
 use Rattle.settlement.specs.Prices.{changeOf}
 use Rattle.settlement.specs.Settling.{keepOf, amountOf, sumOfAmounts, said, Plan, answerBy, paidBy}
 use Rattle.dayfile.specs.declared.records.Mark.{Mark}
 use Rattle.dayfile.specs.declared.records.Position.{Position}
-use Rattle.dayfile.specs.declared.file.DayFile.{DayFile}
-use Rattle.checks.specs.declared.order.Verdict.the-variants.{Passed}
 use Rattle.settlement.specs.declared.amounts.Sums.{Sums}
 use Rattle.settlement.specs.declared.settling.Settlement.{Settlement}
 
@@ -49,16 +47,15 @@ blank = replicate (fileLimits .marks) (pos 0)
 abbrev pub changesOf : List Mark → (ℕ → ℕ) → List ℤ
 changesOf ms final = front (changeOf ms final) blank (length ms)
 
--- three lists whose records passed, and how many of the corrections were resent
-pub record Passing (l : Lists) (resent : ℕ) : Type 0 where
-  pub accepted : Accepted l
-  pub counted : resent ≡ resentOf (l .corrections)
+-- three lists within the file's limits, whose records passed
+pub record Accepted (ls : Lists) : Type 0 where
+  pub small : Small ls
+  pub passed : decisionOf (recordChecks ls) ≡ Unmet
 
--- a file that passed checks 1 to 13
-pub record Sound (s : List ℕ) (d : DayFile) (resent : ℕ) : Type 0 where
-  pub laid : LaidOut s d
-  pub passed : verdictOf (listsIn s d) ≡ Passed
-  pub counted : resent ≡ resentOf (listsIn s d .corrections)
+-- and how many of the corrections were resent
+pub record Passing (ls : Lists) (resent : ℕ) : Type 0 where
+  pub accepted : Accepted ls
+  pub counted : resent ≡ resentOf (ls .corrections)
 
 -- positions whose lots and marks are in range
 pub record Payable (ps : List Position) : Type 0 where

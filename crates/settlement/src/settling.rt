@@ -12,9 +12,8 @@ ghost use Prim.Native.Nat.{_≤_};
 ghost use lib.ListN.{length};
 ghost use Rattle.dayfile.specs.Limits.{fileLimits};
 ghost use Rattle.dayfile.specs.Records.{positionsIn, listsOf};
-ghost use Rattle.dayfile.specs.Layout.{listsIn};
 ghost use Rattle.settlement.specs.Settling.{said, accept, roomPlan, answerOf, amountsAfter};
-ghost use Rattle.settlement.specs.Steps.{Passing, Sound, Settles};
+ghost use Rattle.settlement.specs.Steps.{Passing, Settles};
 
 // The answer to a day file: how many positions, the totals and the resent count; or the number of a check and the index of a record.
 pub enum Settlement {
@@ -74,24 +73,6 @@ fn settle_records(
     settle_accepted(marks, corrections, positions, resent, amounts)
 }
 
-// Lends the three sections of a file that passed checks 1 to 13.
-fn settle_sound(s: &[u8], d: DayFile, resent: usize, amounts: &mut [i64]) -> Settlement
-    requires { ⌜ Sound (now s) d resent ⌝ }
-    ensures { λ r. ⌜ Settles (roomPlan (listsIn (now (s .entry)) d) (length (now (amounts .entry)))) r (now (amounts .entry)) (now (amounts .exit)) ⌝ }
-{
-    let start = DayFile::HEADER;
-    let corrections = d.corrections_start();
-    let positions = d.positions_start();
-    let end = d.length();
-    settle_records(
-        &s[start..corrections],
-        &s[corrections..positions],
-        &s[positions..end],
-        resent,
-        amounts,
-    )
-}
-
 // Settles a day file: its answer, with the amounts in the first places of the slice.
 pub fn settle(file: &[u8], amounts: &mut [i64]) -> Settlement
     ensures answer { λ r. ⌜ said r ≡ answerOf fileLimits (now (file .entry)) (length (now (amounts .entry))) ⌝ }
@@ -99,6 +80,12 @@ pub fn settle(file: &[u8], amounts: &mut [i64]) -> Settlement
 {
     match judge(file) {
         Judged::Refused { number, index } => Settlement::Refused { number, index },
-        Judged::Sound { counts, resent } => settle_sound(file, counts, resent, amounts),
+        Judged::Sound { counts, resent } => settle_records(
+            counts.marks_in(file),
+            counts.corrections_in(file),
+            counts.positions_in(file),
+            resent,
+            amounts,
+        ),
     }
 }

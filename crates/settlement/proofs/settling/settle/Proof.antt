@@ -1,20 +1,25 @@
+use lib.ListN.{length}
 use mathlib.Core.Path.{refl}
-use Rattle.settlement.proofs.Plans.{answered, sound, refuses}
+use Rattle.dayfile.proofs.Parts.{lists-are}
+use Rattle.settlement.proofs.Plans.{answered, sound, refuses, passing-of, settles-of}
 use borrow.Author.Needs.{needs}
 use Rattle.settlement.proofs.settling.settle.Statement.{statement}
 use Rattle.settlement.proofs.settling.settle.Tie as tie
 
-settle-sound-requires : tie.Need-settle-sound-requires
-settle-sound-requires c κs = sound _ (c .before .before .before .before .judge .ensures) (c .before .before .counts .given .1)
+settle-records-requires : tie.Need-settle-records-requires
+settle-records-requires c κs =
+    let f = c .before .before .before .before .before .before .before .before .before .args .file .now in
+    let cut = lists-are f (c .before .before .before .before .before .counts .given .0 .0) (c .before .before .before .marks-in .ensures) (c .before .before .corrections-in .ensures) (c .before .positions-in .ensures) in
+    passing-of cut (sound f (c .before .before .before .before .before .before .before .judge .ensures) (c .before .before .before .before .before .counts .given .1))
 
 returns : tie.Need-returns
 returns c = answered _ _ (c .before .before .before .judge .ensures) (c .before .number .given .1) (refuses refl)
 
-same-length : tie.Need-same-length
-same-length c = search needs
-
 returns-2 : tie.Need-returns-2
-returns-2 c = answered _ _ (c .before .before .before .before .before .before .judge .ensures) (c .before .before .before .before .counts .given .1) (c .before .settle-sound .ensures)
+returns-2 c =
+    let f = c .before .before .before .before .before .before .before .before .before .before .before .args .file .now in
+    let cut = lists-are f (c .before .before .before .before .before .before .before .counts .given .0 .0) (c .before .before .before .before .before .marks-in .ensures) (c .before .before .before .before .corrections-in .ensures) (c .before .before .before .positions-in .ensures) in
+    answered f _ (c .before .before .before .before .before .before .before .before .before .judge .ensures) (c .before .before .before .before .before .before .before .counts .given .1) (settles-of (length (c .before .before .before .before .before .before .before .before .before .before .before .args .amounts .now)) cut (c .before .settle-records .ensures))
 
 pub settle-spec : {M : Type 1} → statement M
 settle-spec =
@@ -23,7 +28,10 @@ settle-spec =
     (λ c κs. search needs)
     (λ c. search needs)
     (λ c. search needs)
-    settle-sound-requires
+    (λ c κs. search needs)
+    (λ c κs. search needs)
+    (λ c κs. search needs)
+    settle-records-requires
     returns
-    same-length
+    (λ c. search needs)
     returns-2)
