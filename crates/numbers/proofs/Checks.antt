@@ -1,10 +1,13 @@
 -- The laws of checks in their order: what they decide is what their conditions in words say, and how parts of an order go together.
 use mathlib.Core.Path.{_≡_, refl, sym, ap, _∙_}
-use mathlib.Core.Bool.{Bool, false, cond}
+use mathlib.Core.Bool.{Bool, true, false, cond, _&&_}
 use mathlib.Core.List.{List, [], _∷_, _++_, map, foldl, List·Memᴰ}
 use mathlib.Core.Logic.{_⊎_, inl, inr, ⊎-elim, _↔_}
-use Prim.Native.Nat.{ℕ, _<_}
+use Prim.Native.Nat.{ℕ, _≤_, _<_}
+use native.Mathlib.Nat.{le-trans}
 use native.Mathlib.Omega.{arith}
+use lib.Dec.{leb}
+use borrow.Author.Tests.{leb-true}
 use Rattle.numbers.specs.Folds.{first}
 use Rattle.numbers.specs.Order.{pick, andThen, orFound, decision}
 use Rattle.numbers.specs.Checks.{Check, Checks, wholly, _before_, numberOf, HoldsAt, Refuses, Passes, findingOf, decisionOf}
@@ -12,7 +15,7 @@ use Rattle.numbers.specs.declared.Found.{Found}
 use Rattle.numbers.specs.declared.Found.the-variants.{At, Nothing}
 use Rattle.numbers.specs.declared.deciding.Decision.{Decision}
 use Rattle.numbers.specs.declared.deciding.Decision.the-variants.{Met, Unmet}
-use Rattle.numbers.proofs.Truth.{Tells}
+use Rattle.numbers.proofs.Truth.{Tells, and-left, and-right}
 use Rattle.numbers.proofs.Searches.{first-clear}
 use Rattle.numbers.proofs.Order.{Finds, first-finds, met-exactly, clear-exactly, all-clear, none-of}
 
@@ -113,3 +116,28 @@ decision-before p q =
     decision-append number finding (map inl (p .order)) (map inr (q .order))
     ∙ ap (λ d. andThen d (decision number finding (map inr (q .order)))) (decision-map number finding inl (p .order))
     ∙ ap (andThen (decision (numberOf p) (findingOf p) (p .order))) (decision-map number finding inr (q .order))
+
+-- ---- the number and the index of a refusal
+
+-- none of some numbers is above n
+abbrev pub noneAbove : ℕ → List ℕ → Bool
+noneAbove n [] = true
+noneAbove n (k ∷ ks) = leb k n && noneAbove n ks
+
+stands : {R : Type 0} (f : R → ℕ) (xs : List R) (x : R) (ys : List R) (n : ℕ) → noneAbove n (map f (xs ++ (x ∷ ys))) ≡ true → f x ≤ n
+stands f [] x ys n p = leb-true (f x) n (and-left (leb (f x) n) _ p)
+stands f (z ∷ xs) x ys n p = stands f xs x ys n (and-right (leb (f z) n) _ p)
+
+pub number-within : (cs : Checks) (n : ℕ) → noneAbove n (map (numberOf cs) (cs .order)) ≡ true → {k i : ℕ} → Refuses cs k i → k ≤ n
+number-within cs n p r = rw (← r .numbered) (stands (numberOf cs) (r .earlier) (r .condition) (r .later) n (rw (r .ordered) at p))
+
+-- no check looks at more than n records
+abbrev pub Sized : Checks → ℕ → Type 0
+Sized cs n = (c : cs .Name) → cs .size c ≤ n
+
+pub sized-before : (p q : Checks) {n : ℕ} → Sized p n → Sized q n → Sized (p before q) n
+sized-before p q a b (inl c) = a c
+sized-before p q a b (inr c) = b c
+
+pub index-within : (cs : Checks) (n : ℕ) → Sized cs n → {k i : ℕ} → Refuses cs k i → i < n
+index-within cs n h r = le-trans (r .here .0) (h (r .condition))

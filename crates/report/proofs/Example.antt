@@ -12,8 +12,9 @@ use Rattle.numbers.specs.Folds.{first, some}
 use Rattle.dayfile.specs.Records.{markAt, correctionAt, positionAt}
 use Rattle.checks.specs.Table.{listed, quoted, tickOf}
 use Rattle.settlement.specs.Worths.{worthOf}
-use Rattle.checks.specs.Checks.{verdictOf}
-use Rattle.dayfile.specs.Layout.{countsOf, openedOf}
+use Rattle.numbers.specs.Checks.{decisionOf}
+use Rattle.checks.specs.Judging.{judgedOf}
+use Rattle.dayfile.specs.Layout.{countsOf}
 use Rattle.dayfile.specs.Making.{countsIn, entryBytes, headerOf, madeOf}
 use Rattle.settlement.specs.Prices.{latestOf, finalOf, changeOf}
 use Rattle.settlement.specs.Settling.{amountOf, totalOf, planOf, answerOf}
@@ -35,11 +36,11 @@ printed =
 
 -- with room for its amounts, and settled into a slice of one place
 pub case-prints : (sheetOf caseFile 4096 ≡ printed) × (sheetOf caseFile 1 ≡ ascii "refused 14 at 0\n")
-unfolding marks corrections positions caseFile printed nearest par priceLimit yieldAt products sameCode findIn find hasMonth billDividend billDivisor valueBy judged valueOf u32At signed recordsOf first some markAt correctionAt positionAt listed quoted tickOf currencyOf worthOf verdictOf countsOf openedOf latestOf finalOf changeOf amountOf totalOf planOf answerOf texts digitsWithin decimal signedDecimal lettersOf positionLine totalLine resentLine refusalLine answerText positionsText sheetOf
+unfolding marks corrections positions caseFile printed nearest par priceLimit yieldAt products sameCode findIn find hasMonth billDividend billDivisor valueBy judged valueOf u32At signed recordsOf first some markAt correctionAt positionAt listed quoted tickOf currencyOf worthOf decisionOf judgedOf countsOf latestOf finalOf changeOf amountOf totalOf planOf answerOf texts digitsWithin decimal signedDecimal lettersOf positionLine totalLine resentLine refusalLine answerText positionsText sheetOf
 case-prints = (refl, refl)
 
 -- a file with both currencies, and one whose second position names no mark
 pub others-print : (sheetOf twoMarks 2 ≡ ascii "11 IR 3 18 24060 AUD\n" ++ ascii "12 BB 6 19 -9576 NZD\n" ++ ascii "total AUD 24060\n" ++ ascii "total NZD -9576\n" ++ ascii "resent 1\n")
     × (sheetOf noMark 2 ≡ ascii "refused 12 at 1\n")
-unfolding twoMarks u32Bytes countsIn entryBytes headerOf madeOf nearest par priceLimit yieldAt products sameCode findIn find hasMonth billDividend billDivisor valueBy judged valueOf u32At signed recordsOf first some markAt correctionAt positionAt listed quoted tickOf currencyOf worthOf verdictOf countsOf openedOf latestOf finalOf changeOf amountOf totalOf planOf answerOf texts digitsWithin decimal signedDecimal lettersOf positionLine totalLine resentLine refusalLine answerText positionsText sheetOf
+unfolding twoMarks u32Bytes countsIn entryBytes headerOf madeOf nearest par priceLimit yieldAt products sameCode findIn find hasMonth billDividend billDivisor valueBy judged valueOf u32At signed recordsOf first some markAt correctionAt positionAt listed quoted tickOf currencyOf worthOf decisionOf judgedOf countsOf latestOf finalOf changeOf amountOf totalOf planOf answerOf texts digitsWithin decimal signedDecimal lettersOf positionLine totalLine resentLine refusalLine answerText positionsText sheetOf
 others-print = (refl, refl)

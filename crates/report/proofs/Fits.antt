@@ -14,30 +14,33 @@ use Rattle.products.specs.declared.table.Currency.the-variants.{Aud, Nzd}
 use Rattle.numbers.proofs.Counting.{count-small}
 use Rattle.dayfile.specs.Limits.{fileLimits}
 use Rattle.dayfile.specs.Records.{Lists, positionAt, markSize, positionSize}
-use Rattle.pairs.specs.Pairs.{numberPair, repeating}
-use Rattle.checks.specs.Checks.{numberOf, verdictOf}
-use Rattle.dayfile.specs.Layout.{openedOf, listsIn, listsOfFile, countsOf, headerSize, positionsStart, markBytes, positionBytes}
-use Rattle.settlement.specs.Conditions.{Reason, Short, Counts, Layout, Record, Room, Holds, reasonNumber, sizeOf}
-use Rattle.checks.specs.Judging.{resentOf}
-use Rattle.settlement.specs.Settling.{refused, accept, refuse, listsPlan, planOf, answerBy, answerOf, amountOf, changeIn, totalOf, shareOf, totals}
+use Rattle.numbers.specs.Folds.{repeating}
+use Rattle.numbers.specs.Checks.{wholly, _before_, decisionOf}
+use Rattle.numbers.specs.declared.deciding.Decision.{Decision}
+use Rattle.numbers.specs.declared.deciding.Decision.the-variants.{Met, Unmet}
+use Rattle.numbers.proofs.Checks.{Sized, sized-before, number-within, index-within}
+use Rattle.dayfile.specs.Layout.{listsIn, listsOfFile, countsOf, headerSize, positionsStart, markBytes, positionBytes}
+use Rattle.dayfile.specs.Opening.{headerChecks, openedOf}
+use Rattle.checks.specs.Marks.{markChecks}
+use Rattle.checks.specs.Corrections.{numberPair, correctionChecks, resentOf}
+use Rattle.checks.specs.Positions.{positionChecks}
+use Rattle.checks.specs.Judging.{recordChecks, fileChecks}
+use Rattle.settlement.specs.Conditions.{roomCheck, settlementChecks}
+use Rattle.settlement.specs.Settling.{refused, accept, refuse, planOf, answerBy, answerOf, amountOf, changeIn, totalOf, shareOf, totals}
 use Rattle.dayfile.specs.Steps.{Small, LaidOut}
 use Rattle.settlement.specs.Steps.{amountCap}
 use Rattle.dayfile.specs.declared.records.Correction.{Correction}
 use Rattle.dayfile.specs.declared.file.DayFile.{DayFile}
 use Rattle.dayfile.specs.declared.file.Opened.{Opened}
 use Rattle.dayfile.specs.declared.file.Opened.the-variants.{File, Refused}
-use Rattle.checks.specs.declared.order.Check.{Check}
-use Rattle.checks.specs.declared.order.Check.the-variants as check
-use Rattle.checks.specs.declared.order.Verdict.{Verdict}
-use Rattle.checks.specs.declared.order.Verdict.the-variants.{Passed, Failed}
-use Rattle.checks.proofs.Passed.{mark-in, lots-in}
+use Rattle.checks.proofs.Passed.{passed-parts, mark-in, lots-in}
 use Rattle.dayfile.proofs.Parts.{small}
 use Rattle.settlement.proofs.Changes.{change-bound}
 use Rattle.settlement.proofs.Sizes.{product-small, sum-small, keep-small}
 use Rattle.settlement.proofs.Totals.{total-is}
 use Rattle.dayfile.proofs.Opening.{opens, laid-out}
 use Rattle.settlement.proofs.Demands.{demand-2}
-use Rattle.report.proofs.Plans.{opened-plan, refused-plan}
+use Rattle.settlement.proofs.Plans.{planFrom, plan-decided, refused-plan}
 use Rattle.report.specs.Lines.{lineAt}
 use Rattle.numbers.specs.Bytes.{Bytes}
 use Rattle.numbers.proofs.Bytes.{part-bytes, u32-small}
@@ -49,7 +52,7 @@ use Rattle.report.specs.Sheet.{answerText, positionsText, sheetOf, lineS
 resent-small : (cs : List Correction) → resentOf cs ≤ length cs
 resent-small cs = count-small (repeating (numberPair cs)) (length cs)
 
-module _ (s : List ℕ) (b : Bytes s) (d : DayFile) (laid : LaidOut s d) (passed : verdictOf (listsIn s d) ≡ Passed) where
+module _ (s : List ℕ) (b : Bytes s) (d : DayFile) (laid : LaidOut s d) (passed : decisionOf (recordChecks (listsIn s d)) ≡ Unmet) where
   l : Lists
   l = listsIn s d
 
@@ -80,74 +83,50 @@ module _ (s : List ℕ) (b : Bytes s) (d : DayFile) (laid : LaidOut s d) (passed
 
 -- ---- a file that is refused
 
-number-small : (r : Reason) → reasonNumber r ≤ 14
-number-small Short = omega arith
-number-small Counts = omega arith
-number-small Layout = omega arith
-number-small (Record c) = of-check c
-  where
-    of-check : (c : Check) → numberOf c ≤ 14
-    of-check check.Code = omega arith
-    of-check check.Date = omega arith
-    of-check check.PriceLimit = omega arith
-    of-check check.Tick = omega arith
-    of-check check.MarkRepeated = omega arith
-    of-check check.CorrectionMark = omega arith
-    of-check check.CorrectionPrice = omega arith
-    of-check check.CorrectionClash = omega arith
-    of-check check.PositionMark = omega arith
-    of-check check.Lots = omega arith
-number-small Room = omega arith
-
-size-small : (l : Lists) → Small l → (c : Check) → sizeOf l c ≤ fileLimits .positions
-size-small l h check.Code = omega (arith, h .marks)
-size-small l h check.Date = omega (arith, h .marks)
-size-small l h check.PriceLimit = omega (arith, h .marks)
-size-small l h check.Tick = omega (arith, h .marks)
-size-small l h check.MarkRepeated = omega (arith, h .marks)
-size-small l h check.CorrectionMark = omega (arith, h .corrections)
-size-small l h check.CorrectionPrice = omega (arith, h .corrections)
-size-small l h check.CorrectionClash = omega (arith, h .corrections)
-size-small l h check.PositionMark = h .positions
-size-small l h check.Lots = h .positions
+-- no check looks at more than the positions of a file
+sizes : (f : List ℕ) (places : ℕ) → Small (listsOfFile f) → Sized (settlementChecks fileLimits f places) (fileLimits .positions)
+sizes f places h =
+    let l = listsOfFile f in
+    let m = markChecks (l .marks) in
+    let c = correctionChecks (l .marks) (l .corrections) in
+    let p = positionChecks (l .marks) (l .positions) in
+    let header = headerChecks fileLimits f in
+    sized-before (fileChecks fileLimits f) (wholly (roomCheck l places))
+    (sized-before header (recordChecks l) (λ x. omega arith)
+    (sized-before m (c before p) (λ x. omega (arith, h .marks)) (sized-before c p (λ x. omega (arith, h .corrections)) (λ x. h .positions))))
+    (λ x. omega arith)
 
 module _ (s : List ℕ) (places : ℕ) where
   refused-answer : {k i : ℕ} → planOf fileLimits s places ≡ refuse k i → answerOf fileLimits s places ≡ refused k i
   unfolding answerOf
   refused-answer e = ap answerBy e
 
-  index-small : Small (listsOfFile s) → {k i : ℕ} → planOf fileLimits s places ≡ refuse k i → i ≤ fileLimits .positions
-  index-small h {k} {i} e = let t = demand-2 fileLimits s places .0 (refused-answer e) in by-reason (t .condition) (t .here)
-    where
-      by-reason : (r : Reason) → Holds fileLimits s places r i → i ≤ fileLimits .positions
-      by-reason Short g = omega (arith, g .0)
-      by-reason Counts g = omega (arith, g .0)
-      by-reason Layout g = omega (arith, g .0)
-      by-reason (Record c) g = omega (arith, g .0, size-small (listsOfFile s) h c)
-      by-reason Room g = omega (arith, g .0)
-
   refused-fits : {k i : ℕ} → planOf fileLimits s places ≡ refuse k i → i ≤ fileLimits .positions → length (sheetOf s places) ≤ sheetSize
   unfolding sheetOf answerOf positionsText answerText
   refused-fits {k} {i} e h =
-      let t = demand-2 fileLimits s places .0 (refused-answer e) in
-      rw e (omega (arith, refusal-length k i (omega (arith, number-small (t .condition), t .numbered)) (omega arith)))
+      let n = number-within (settlementChecks fileLimits s places) 14 refl (demand-2 fileLimits s places .0 (refused-answer e)) in
+      rw e (omega (arith, refusal-length k i (omega arith) (omega arith)))
 
-  accepted-fits : Bytes s → (d : DayFile) → LaidOut s d → verdictOf (listsIn s d) ≡ Passed → planOf fileLimits s places ≡ accept (listsIn s d) → length (sheetOf s places) ≤ sheetSize
-  unfolding sheetOf answerOf l
-  accepted-fits b d h p e = rw e (accepted-length s b d h p)
+  -- a file that opens
+  module _ (b : Bytes s) (laid : LaidOut s (countsOf s)) where
+    by-room : decisionOf (recordChecks (listsOfFile s)) ≡ Unmet → (t : Bool) → planOf fileLimits s places ≡ cond t (refuse 14 0) (accept (listsOfFile s)) → length (sheetOf s places) ≤ sheetSize
+    unfolding sheetOf answerOf l
+    by-room v true p = refused-fits p (omega arith)
+    by-room v false p = rw p (accepted-length s b (countsOf s) laid v)
+
+    by-decision : (d : Decision) → decisionOf (fileChecks fileLimits s) ≡ d → planOf fileLimits s places ≡ planFrom s places d → length (sheetOf s places) ≤ sheetSize
+    by-decision (Met k i) e p =
+        let t = demand-2 fileLimits s places .0 (refused-answer p) in
+        let h = index-within (settlementChecks fileLimits s places) (fileLimits .positions) (sizes s places (small s (countsOf s) laid)) t in
+        refused-fits p (omega arith)
+    by-decision Unmet e p = by-room (passed-parts fileLimits s e .1) (ltb places (length (listsOfFile s .positions))) p
 
   -- the sheet of every file fits, whatever slice it is settled into
   pub sheet-fits : Bytes s → length (sheetOf s places) ≤ sheetSize
   sheet-fits b = by-opened (openedOf fileLimits s) refl
     where
-      by-room : (d : DayFile) (t : Bool) → LaidOut s d → verdictOf (listsIn s d) ≡ Passed → planOf fileLimits s places ≡ cond t (refuse 14 0) (accept (listsIn s d)) → length (sheetOf s places) ≤ sheetSize
-      by-room d true h v p = refused-fits p (omega arith)
-      by-room d false h v p = accepted-fits b d h v p
-
-      by-verdict : (d : DayFile) (v : Verdict) → LaidOut s d → countsOf s ≡ d → verdictOf (listsIn s d) ≡ v → planOf fileLimits s places ≡ listsPlan (listsIn s d) v places → length (sheetOf s places) ≤ sheetSize
-      by-verdict d (Failed c i) h e v p = refused-fits p (index-small (rw e (small s d h)) p)
-      by-verdict d Passed h e v p = by-room d (ltb places (length (listsIn s d .positions))) h v p
-
       by-opened : (o : Opened) → openedOf fileLimits s ≡ o → length (sheetOf s places) ≤ sheetSize
-      by-opened (Refused k) e = refused-fits (refused-plan s places (sym e) refl) (omega arith)
-      by-opened (File d) e = by-verdict d (verdictOf (listsIn s d)) (laid-out s e) (opens fileLimits s e .1) refl (opened-plan s places (sym e) refl)
+      by-opened (Refused k) e = refused-fits (refused-plan fileLimits s places e) (omega arith)
+      by-opened (File d) e =
+          let same = opens fileLimits s e .1 in
+          by-decision b (rw same (laid-out s e)) (decisionOf (fileChecks fileLimits s)) refl (plan-decided fileLimits s places)

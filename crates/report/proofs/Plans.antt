@@ -1,5 +1,5 @@
 -- From the plan that a file is settled by to the lines of its sheet.
-use mathlib.Core.Path.{_≡_, refl, ap, _∙_}
+use mathlib.Core.Path.{_≡_, refl, sym, ap, _∙_}
 use mathlib.Core.Bool.{Bool, true, false, cond}
 use mathlib.Core.List.{List, []}
 use Prim.Native.Nat.{ℕ, _≤_}
@@ -11,19 +11,24 @@ use lib.ListN.{length, getD, drop}
 use Rattle.text.specs.Writing.{texts}
 use Rattle.text.proofs.Writing.{texts-same}
 use Rattle.dayfile.specs.Limits.{fileLimits}
-use Rattle.dayfile.specs.Records.{Lists, markAt, positionAt}
-use Rattle.dayfile.specs.Layout.{openedOf, listsIn}
-use Rattle.settlement.specs.Settling.{Plan, accept, refuse, listsPlan, planFor, planOf, said, answerOf, amountsAfter, amountOf, changeIn}
+use Rattle.dayfile.specs.Records.{Lists, markAt, positionAt, marksIn, positionsIn}
+use Rattle.dayfile.specs.Layout.{countsOf, listsIn, listsOfFile}
+use Rattle.dayfile.specs.Opening.{openedOf}
+use Rattle.numbers.specs.Checks.{decisionOf}
+use Rattle.numbers.specs.declared.deciding.Decision.{Decision}
+use Rattle.numbers.specs.declared.deciding.Decision.the-variants.{Met, Unmet}
+use Rattle.checks.specs.Judging.{recordChecks, fileChecks}
+use Rattle.settlement.specs.Settling.{Plan, accept, refuse, planOf, said, answerOf, amountsAfter, amountOf, changeIn}
 use Rattle.dayfile.specs.declared.file.DayFile.{DayFile}
 use Rattle.dayfile.specs.declared.file.Opened.{Opened}
 use Rattle.dayfile.specs.declared.file.Opened.the-variants.{File, Refused}
-use Rattle.checks.specs.declared.order.Verdict.{Verdict}
-use Rattle.checks.specs.declared.order.Verdict.the-variants.{Passed, Failed}
 use Rattle.settlement.specs.declared.settling.Settlement.{Settlement}
-use Rattle.checks.specs.Checks.{verdictOf}
-use Rattle.checks.proofs.Passed.{mark-in}
+use Rattle.dayfile.proofs.Refusals.{opened-decides}
+use Rattle.checks.proofs.Passed.{passed-parts, mark-in}
+use Rattle.settlement.proofs.Plans.{planFrom, plan-decided, refused-plan}
 use Rattle.numbers.proofs.Tables.{entry}
-use Rattle.report.specs.Lines.{positionLine}
+use Rattle.numbers.specs.Integers.{entryOf}
+use Rattle.report.specs.Lines.{positionLine, lineAt}
 use Rattle.report.specs.Sheet.{positionsText}
 use Rattle.report.specs.Steps.{Paid, Named, countOf, linesIn}
 
@@ -38,7 +43,7 @@ module _ (l : Lists) (a : List ℤ) {n : ℕ} where
   unfolding positionsText texts
   lined-refused p = record { room = omega (arith, p .count); named = λ i h. absurd (omega (arith, p .count)); lines = rw (p .count) }
 
-  lined-accepted : verdictOf l ≡ Passed → length (l .positions) ≤ length a → Paid (accept l) n a → Lined l (accept l) n a
+  lined-accepted : decisionOf (recordChecks l) ≡ Unmet → length (l .positions) ≤ length a → Paid (accept l) n a → Lined l (accept l) n a
   unfolding positionsText
   lined-accepted e h p =
       record {
@@ -49,33 +54,31 @@ module _ (l : Lists) (a : List ℤ) {n : ℕ} where
             (ap (λ x. getD x i (pos 0)) (p .written) ∙ entry (amountOf (l .positions) (changeIn l)) (length (l .positions)) i (drop (length (l .positions)) (p .before)) (pos 0) k));
       }
 
-  by-room : verdictOf l ≡ Passed → (t : Bool) → ltb (length a) (length (l .positions)) ≡ t → Paid (cond t (refuse 14 0) (accept l)) n a → Lined l (cond t (refuse 14 0) (accept l)) n a
+  by-room : decisionOf (recordChecks l) ≡ Unmet → (t : Bool) → ltb (length a) (length (l .positions)) ≡ t → Paid (cond t (refuse 14 0) (accept l)) n a → Lined l (cond t (refuse 14 0) (accept l)) n a
   by-room v true e p = lined-refused p
   by-room v false e p = lined-accepted v (ltb-false _ _ e) p
-
-  by-verdict : (v : Verdict) → verdictOf l ≡ v → Paid (listsPlan l v (length a)) n a → Lined l (listsPlan l v (length a)) n a
-  by-verdict (Failed c i) v p = lined-refused p
-  by-verdict Passed v p = by-room v (ltb (length a) (length (l .positions))) refl p
-
-pub refused-plan : (s : List ℕ) (places : ℕ) {o : Opened} {k : ℕ} → o ≡ openedOf fileLimits s → o ≡ Refused k → planOf fileLimits s places ≡ refuse k 0
-unfolding planOf
-refused-plan s places e f = rw (← e, f)
 
 -- a file that does not open has no lines
 pub refused-lines : (s : List ℕ) (places : ℕ) {o : Opened} {k : ℕ} → o ≡ openedOf fileLimits s → o ≡ Refused k → positionsText (planOf fileLimits s places) ≡ []
 unfolding positionsText
-refused-lines s places e f = rw (refused-plan s places e f)
-
-pub opened-plan : (s : List ℕ) (places : ℕ) {o : Opened} {d : DayFile} → o ≡ openedOf fileLimits s → o ≡ File d → planOf fileLimits s places ≡ planFor (listsIn s d) places
-unfolding planOf
-opened-plan s places e f = rw (← e, f)
+refused-lines s places e f = rw (refused-plan fileLimits s places (sym e ∙ f))
 
 -- of a file that opens, the lines with the slice's amounts are those of the plan
 pub settled-lines : (s : List ℕ) (a : List ℤ) {n : ℕ} {o : Opened} {d : DayFile} → o ≡ openedOf fileLimits s → o ≡ File d → Paid (planOf fileLimits s (length a)) n a
     → Lined (listsIn s d) (planOf fileLimits s (length a)) n a
-settled-lines s a {d = d} e f p =
-    let q = opened-plan s (length a) e f in
-    rw q (by-verdict (listsIn s d) a (verdictOf (listsIn s d)) refl (rw q at p))
+settled-lines s a {n} {d = d} e f p =
+    let same : countsOf s ≡ d = opened-decides fileLimits s (sym e ∙ f) .1 in
+    let q = plan-decided fileLimits s (length a) in
+    rw (← same, q) (by-decision (decisionOf (fileChecks fileLimits s)) refl (rw q at p))
+  where
+    by-decision : (x : Decision) → decisionOf (fileChecks fileLimits s) ≡ x → Paid (planFrom s (length a) x) n a → Lined (listsOfFile s) (planFrom s (length a) x) n a
+    by-decision (Met k i) v h = lined-refused (listsOfFile s) a h
+    by-decision Unmet v h = by-room (listsOfFile s) a (passed-parts fileLimits s v .1) (ltb (length a) (length (listsOfFile s .positions))) refl h
+
+-- the lines of two sections are those of their lists
+pub lines-by : (a : List ℤ) (n : ℕ) {m m′ p p′ : List ℕ} → m ≡ m′ → p ≡ p′
+    → texts (lineAt (marksIn m) (positionsIn p) (entryOf a)) n ≡ texts (lineAt (marksIn m′) (positionsIn p′) (entryOf a)) n
+lines-by a n e f = rw (e, f)
 
 -- the answer and the slice of a settlement carry out the plan
 pub paid : (s : List ℕ) (before now : List ℤ) (r : Settlement) → length now ≡ length before → said r ≡ answerOf fileLimits s (length before)

@@ -1,16 +1,13 @@
 // The whole sheet.
 ghost use mathlib.Core.Path.{_≡_};
 ghost use mathlib.Core.List.{_++_};
-ghost use Prim.Native.Nat.{_≤_};
 ghost use lib.ListN.{length};
 ghost use Rattle.text.specs.Table.{digitPairs};
 ghost use Rattle.text.specs.Writing.{Wrote, Writes};
 ghost use Rattle.dayfile.specs.Limits.{fileLimits};
-ghost use Rattle.dayfile.specs.Layout.{listsIn};
 ghost use Rattle.settlement.specs.Settling.{said, planOf};
-ghost use Rattle.dayfile.specs.Steps.{LaidOut};
 ghost use Rattle.report.specs.Sheet.{answerText, positionsText, sheetWithin, amountsWithin};
-ghost use Rattle.report.specs.Steps.{Paid, Named, countOf, linesIn};
+ghost use Rattle.report.specs.Steps.{Paid, countOf};
 use crate::answers::write_answer;
 use crate::positions::write_positions;
 use dayfile::DayFile;
@@ -47,32 +44,6 @@ fn count(answer: Settlement) -> usize
     }
 }
 
-// Lends the sections of the marks and of the positions.
-fn write_laid_out(
-    pairs: &[u8; 200],
-    file: &[u8],
-    d: DayFile,
-    n: usize,
-    amounts: &[i64],
-    out: &mut [u8],
-) -> usize
-    requires { ⌜ (now pairs ≡ digitPairs) × LaidOut (now file) d × (n ≤ length (now amounts)) × Named (listsIn (now file) d .marks) (listsIn (now file) d .positions) n ⌝ }
-    ensures { λ r. ⌜ Writes (linesIn (listsIn (now (file .entry)) d) (now (amounts .entry)) n) r (now (out .entry)) (now (out .exit)) ⌝ }
-{
-    let start = DayFile::HEADER;
-    let corrections = d.corrections_start();
-    let positions = d.positions_start();
-    let end = d.length();
-    write_positions(
-        pairs,
-        &file[start..corrections],
-        &file[positions..end],
-        amounts,
-        n,
-        out,
-    )
-}
-
 // Writes the lines of the n positions that were settled, with their amounts.
 fn write_settled(pairs: &[u8; 200], file: &[u8], n: usize, amounts: &[i64], out: &mut [u8]) -> usize
     requires { ⌜ (now pairs ≡ digitPairs) × Paid (planOf fileLimits (now file) (length (now amounts))) n (now amounts) ⌝ }
@@ -80,7 +51,14 @@ fn write_settled(pairs: &[u8; 200], file: &[u8], n: usize, amounts: &[i64], out:
 {
     match open_file(file) {
         Opened::Refused(_) => 0,
-        Opened::File(d) => write_laid_out(pairs, file, d, n, amounts, out),
+        Opened::File(d) => write_positions(
+            pairs,
+            d.marks_in(file),
+            d.positions_in(file),
+            amounts,
+            n,
+            out,
+        ),
     }
 }
 
