@@ -1,7 +1,7 @@
--- Each check's test is true exactly where its words say that something is wrong.
+-- Each check's test is true exactly where its words say that something is wrong, and each stands in its section's order.
 use mathlib.Core.Path.{_≡_, refl, ap, ap₂}
 use mathlib.Core.Bool.{not, _||_, _&&_}
-use mathlib.Core.List.{List, List·Memᴰ}
+use mathlib.Core.List.{List, _∷_, List·Memᴰ, List·Memᴰ·head, List·Memᴰ·tail}
 use mathlib.Core.Logic.{_⊎_, inl, inr, ⊎-elim}
 use Prim.Native.Nat.{ℕ, _%_, _<_, _∣_}
 use native.Mathlib.Nat.{mod-one}
@@ -29,9 +29,9 @@ use Rattle.dayfile.specs.declared.records.Correction.{Correction}
 use Rattle.dayfile.specs.declared.records.Position.{Position}
 use Rattle.dayfile.proofs.Refusals.{header-agrees}
 use Rattle.checks.specs.Table.{aboveLimit, listed, listedIn, quoted, quotedIn, tickOf, tickIn}
-use Rattle.checks.specs.Marks.{Quoted, OffTick, offTick, SameContract, sameContract, contractPair, MarkCode, MarkDate, MarkLimit, MarkTick, MarkRepeated, markChecks, manyMarks, marksAlone}
-use Rattle.checks.specs.Corrections.{Clash, clashing, clashPair, CorrectionMark, CorrectionPrice, CorrectionClash, correctionChecks, manyCorrections, correctionsAlone}
-use Rattle.checks.specs.Positions.{badLots, PositionMark, PositionLots, positionChecks, manyPositions, positionsAlone}
+use Rattle.checks.specs.Marks.{Quoted, OffTick, offTick, SameContract, sameContract, contractPair, MarkCheck, MarkCode, MarkDate, MarkLimit, MarkTick, MarkRepeated, markChecks, manyMarks, marksAlone}
+use Rattle.checks.specs.Corrections.{Clash, clashing, clashPair, CorrectionCheck, CorrectionMark, CorrectionPrice, CorrectionClash, correctionChecks, manyCorrections, correctionsAlone}
+use Rattle.checks.specs.Positions.{badLots, PositionCheck, PositionMark, PositionLots, positionChecks, manyPositions, positionsAlone}
 use Rattle.checks.specs.Judging.{recordChecks, fileChecks}
 
 -- ---- the product table
@@ -92,6 +92,12 @@ lots z =
 
 -- ---- the checks of each section
 
+here : {A : Type 0} {x : A} {xs : List A} → List·Memᴰ x (x ∷ xs)
+here = List·Memᴰ·head refl
+
+next : {A : Type 0} {x y : A} {xs : List A} → List·Memᴰ x xs → List·Memᴰ x (y ∷ xs)
+next m = List·Memᴰ·tail m
+
 pub marks-agree : (ms : List Mark) → Agree (markChecks ms)
 marks-agree ms MarkCode i = tells-missing (markAt ms i .code)
 marks-agree ms MarkDate i =
@@ -101,6 +107,13 @@ marks-agree ms MarkLimit i = let m = markAt ms i in tells-or (aboveLimit (m .pre
 marks-agree ms MarkTick i = let m = markAt ms i in tells-or (offTick m (m .previous)) (offTick m (m .today)) (off-tick m (m .previous)) (off-tick m (m .today))
 marks-agree ms MarkRepeated i = tells-some (contractPair ms i) i (λ j. same-contract (markAt ms i) (markAt ms j))
 
+pub of-marks : (ms : List Mark) (c : MarkCheck) → List·Memᴰ c (markChecks ms .order)
+of-marks ms MarkCode = here
+of-marks ms MarkDate = next here
+of-marks ms MarkLimit = next (next here)
+of-marks ms MarkTick = next (next (next here))
+of-marks ms MarkRepeated = next (next (next (next here)))
+
 pub corrections-agree : (ms : List Mark) (cs : List Correction) → Agree (correctionChecks ms cs)
 corrections-agree ms cs CorrectionMark i = tells-le (length ms) (correctionAt cs i .mark)
 corrections-agree ms cs CorrectionPrice i =
@@ -109,9 +122,18 @@ corrections-agree ms cs CorrectionPrice i =
     tells-or (aboveLimit (c .price)) (offTick m (c .price)) (above (c .price)) (off-tick m (c .price))
 corrections-agree ms cs CorrectionClash i = tells-some (clashPair cs i) i (λ j. clash (correctionAt cs i) (correctionAt cs j))
 
+pub of-corrections : (ms : List Mark) (cs : List Correction) (c : CorrectionCheck) → List·Memᴰ c (correctionChecks ms cs .order)
+of-corrections ms cs CorrectionMark = here
+of-corrections ms cs CorrectionPrice = next here
+of-corrections ms cs CorrectionClash = next (next here)
+
 pub positions-agree : (ms : List Mark) (ps : List Position) → Agree (positionChecks ms ps)
 positions-agree ms ps PositionMark i = tells-le (length ms) (positionAt ps i .mark)
 positions-agree ms ps PositionLots i = lots (positionAt ps i .lots)
+
+pub of-positions : (ms : List Mark) (ps : List Position) (c : PositionCheck) → List·Memᴰ c (positionChecks ms ps .order)
+of-positions ms ps PositionMark = here
+of-positions ms ps PositionLots = next here
 
 -- ---- lists that stand in no file
 

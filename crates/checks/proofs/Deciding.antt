@@ -1,15 +1,15 @@
 -- What the code finds in a section is what its checks decide.
 use mathlib.Core.Path.{_≡_, refl, sym, ap, _∙_}
-use mathlib.Core.Bool.{Bool, true, false, cond, _||_}
+use mathlib.Core.Bool.{Bool, true, false, _||_}
 use mathlib.Core.List.{List}
 use Prim.Native.Nat.{ℕ, _+_, _≤_, _<_}
 use lib.Dec.{leb}
 use lib.ListN.{length}
-use Rattle.numbers.specs.Folds.{repeating, orElse, first, some, isSome}
+use Rattle.numbers.specs.Folds.{repeating, first, some, isSome}
 use Rattle.numbers.specs.Order.{andThen}
 use Rattle.numbers.specs.Checks.{Checks, Check, wholly, _before_, decisionOf, findingOf}
 use Rattle.numbers.specs.declared.Found.{Found}
-use Rattle.numbers.specs.declared.Found.the-variants.{At, Nothing}
+use Rattle.numbers.specs.declared.Found.the-variants.{Nothing}
 use Rattle.numbers.specs.declared.deciding.Decision.{Decision}
 use Rattle.numbers.specs.declared.deciding.Decision.the-variants.{Met, Unmet}
 use Rattle.numbers.proofs.Truth.{or-left, or-right}
@@ -22,7 +22,7 @@ use Rattle.dayfile.specs.declared.records.Position.{Position}
 use Rattle.checks.specs.Marks.{badCode, badDate, highMark, offMark, contractPair, MarkCheck, MarkCode, MarkDate, MarkLimit, MarkTick, MarkRepeated, markChecks}
 use Rattle.checks.specs.Corrections.{badPrice, clashPair, CorrectionCheck, CorrectionMark, CorrectionPrice, CorrectionClash, correctionChecks, manyCorrections, correctedOf, resentOf}
 use Rattle.checks.specs.Positions.{badLots, PositionCheck, PositionMark, PositionLots, positionChecks}
-use Rattle.checks.specs.Looks.{markLook, correctionLook, positionLook, anyMark, anyCorrection, anyPosition, markFindings, correctionFindings, positionFindings, withMark, withCorrection, withPosition, markDecision, correctionDecision, positionDecision}
+use Rattle.checks.specs.Looks.{markLook, correctionLook, positionLook, anyMark, anyCorrection, anyPosition, markFindings, correctionFindings, positionFindings, WithMark, WithCorrection, WithPosition, markDecision, correctionDecision, positionDecision}
 use Rattle.checks.specs.declared.marks.MarkLook.{MarkLook}
 use Rattle.checks.specs.declared.marks.MarkFindings.{MarkFindings}
 use Rattle.checks.specs.declared.corrections.Corrected.{Corrected}
@@ -32,9 +32,6 @@ use Rattle.checks.specs.declared.positions.PositionLook.{PositionLook}
 use Rattle.checks.specs.declared.positions.PositionFindings.{PositionFindings}
 
 -- ---- one record more
-
-first-step : (t : ℕ → Bool) (i : ℕ) → orElse (first t i) (cond (t i) (At i) Nothing) ≡ first t (i + 1)
-first-step t i = first-next t i refl refl refl
 
 pub no-marks : (ms : List Mark) → record { code = Nothing; date = Nothing; high = Nothing; off = Nothing } ≡ markFindings ms 0
 unfolding first
@@ -48,20 +45,37 @@ pub no-positions : (ms : List Mark) (ps : List Position) → record { unnamed = 
 unfolding first
 no-positions ms ps = refl
 
-pub mark-more : (ms : List Mark) (i : ℕ) {f r : MarkFindings} {l : MarkLook} → f ≡ markFindings ms i → l ≡ markLook (markAt ms i) → r ≡ withMark f l i → r ≡ markFindings ms (i + 1)
-mark-more ms i p q e =
-    e ∙ rw (p, q)
-    (rw (first-step (λ i. badCode (markAt ms i)) i, first-step (λ i. badDate (markAt ms i)) i, first-step (λ i. highMark (markAt ms i)) i, first-step (λ i. offMark (markAt ms i)) i))
+findings-by : {a a′ b b′ c c′ d d′ : Found} → a ≡ a′ → b ≡ b′ → c ≡ c′ → d ≡ d′
+    → _≡_ {A = MarkFindings} (record { code = a; date = b; high = c; off = d }) (record { code = a′; date = b′; high = c′; off = d′ })
+findings-by p q r s = cc
+
+pub mark-more : (ms : List Mark) (i : ℕ) {f r : MarkFindings} {l : MarkLook} → f ≡ markFindings ms i → l ≡ markLook (markAt ms i) → WithMark f l i r → r ≡ markFindings ms (i + 1)
+mark-more ms i p q w =
+    findings-by
+    (first-next (λ i. badCode (markAt ms i)) i (ap (λ (f : MarkFindings). f .code) p) (ap (λ (l : MarkLook). l .code) q) (w .code))
+    (first-next (λ i. badDate (markAt ms i)) i (ap (λ (f : MarkFindings). f .date) p) (ap (λ (l : MarkLook). l .date) q) (w .date))
+    (first-next (λ i. highMark (markAt ms i)) i (ap (λ (f : MarkFindings). f .high) p) (ap (λ (l : MarkLook). l .high) q) (w .high))
+    (first-next (λ i. offMark (markAt ms i)) i (ap (λ (f : MarkFindings). f .off) p) (ap (λ (l : MarkLook). l .off) q) (w .off))
+
+corrections-by : {a a′ b b′ : Found} → a ≡ a′ → b ≡ b′ → _≡_ {A = CorrectionFindings} (record { unnamed = a; price = b }) (record { unnamed = a′; price = b′ })
+corrections-by p q = cc
 
 pub correction-more : (ms : List Mark) (cs : List Correction) (i : ℕ) {f r : CorrectionFindings} {l : CorrectionLook} → f ≡ correctionFindings ms cs i
-    → l ≡ correctionLook ms (correctionAt cs i) → r ≡ withCorrection f l i → r ≡ correctionFindings ms cs (i + 1)
-correction-more ms cs i p q e =
-    e ∙ rw (p, q) (rw (first-step (λ i. leb (length ms) (correctionAt cs i .mark)) i, first-step (λ i. badPrice (markAt ms (correctionAt cs i .mark)) (correctionAt cs i .price)) i))
+    → l ≡ correctionLook ms (correctionAt cs i) → WithCorrection f l i r → r ≡ correctionFindings ms cs (i + 1)
+correction-more ms cs i p q w =
+    corrections-by
+    (first-next (λ i. leb (length ms) (correctionAt cs i .mark)) i (ap (λ (f : CorrectionFindings). f .unnamed) p) (ap (λ (l : CorrectionLook). l .unnamed) q) (w .unnamed))
+    (first-next (λ i. badPrice (markAt ms (correctionAt cs i .mark)) (correctionAt cs i .price)) i (ap (λ (f : CorrectionFindings). f .price) p) (ap (λ (l : CorrectionLook). l .price) q) (w .price))
+
+positions-by : {a a′ b b′ : Found} → a ≡ a′ → b ≡ b′ → _≡_ {A = PositionFindings} (record { unnamed = a; lots = b }) (record { unnamed = a′; lots = b′ })
+positions-by p q = cc
 
 pub position-more : (ms : List Mark) (ps : List Position) (i : ℕ) {f r : PositionFindings} {l : PositionLook} → f ≡ positionFindings ms ps i
-    → l ≡ positionLook ms (positionAt ps i) → r ≡ withPosition f l i → r ≡ positionFindings ms ps (i + 1)
-position-more ms ps i p q e =
-    e ∙ rw (p, q) (rw (first-step (λ i. leb (length ms) (positionAt ps i .mark)) i, first-step (λ i. badLots (positionAt ps i .lots)) i))
+    → l ≡ positionLook ms (positionAt ps i) → WithPosition f l i r → r ≡ positionFindings ms ps (i + 1)
+position-more ms ps i p q w =
+    positions-by
+    (first-next (λ i. leb (length ms) (positionAt ps i .mark)) i (ap (λ (f : PositionFindings). f .unnamed) p) (ap (λ (l : PositionLook). l .unnamed) q) (w .unnamed))
+    (first-next (λ i. badLots (positionAt ps i .lots)) i (ap (λ (f : PositionFindings). f .lots) p) (ap (λ (l : PositionLook). l .lots) q) (w .lots))
 
 -- ---- the order, by what was found
 

@@ -1,7 +1,7 @@
 -- What holds of three lists that passed the checks over their records.
-use mathlib.Core.Path.{_≡_, refl, sym, _∙_}
+use mathlib.Core.Path.{_≡_, sym, _∙_}
 use mathlib.Core.Bool.{false, _||_}
-use mathlib.Core.List.{List, List·Memᴰ, List·Memᴰ·head, List·Memᴰ·tail}
+use mathlib.Core.List.{List}
 use Prim.Native.Nat.{ℕ, _≤_, _<_}
 use native.Mathlib.Omega.{arith}
 use lib.ListN.{length}
@@ -20,10 +20,11 @@ use Rattle.dayfile.specs.Opening.{headerChecks, openedOf}
 use Rattle.dayfile.specs.declared.file.Opened.the-variants.{File}
 use Rattle.dayfile.proofs.Refusals.{opened-decides}
 use Rattle.dayfile.specs.Records.{Lists, positionAt}
-use Rattle.checks.specs.Marks.{MarkCheck, MarkCode, MarkDate, MarkLimit, MarkTick, MarkRepeated, markCheck, markChecks}
-use Rattle.checks.specs.Corrections.{CorrectionCheck, CorrectionMark, CorrectionPrice, CorrectionClash, correctionCheck, correctionChecks}
+use Rattle.checks.specs.Marks.{MarkCheck, markCheck, markChecks}
+use Rattle.checks.specs.Corrections.{CorrectionCheck, correctionCheck, correctionChecks}
 use Rattle.checks.specs.Positions.{badLots, PositionCheck, PositionMark, PositionLots, positionCheck, positionChecks}
 use Rattle.checks.specs.Judging.{recordChecks, fileChecks}
+use Rattle.checks.proofs.Agreement.{of-marks, of-corrections, of-positions}
 
 -- ---- the three parts
 
@@ -59,25 +60,7 @@ module _ (l : Limits) (f : List ℕ) where
   pub parts-passed : openedOf l f ≡ File (countsOf f) → decisionOf (recordChecks (listsOfFile f)) ≡ Unmet → decisionOf (fileChecks l f) ≡ Unmet
   parts-passed o p = decision-before (headerChecks l f) (recordChecks (listsOfFile f)) ∙ rw (opened-decides l f o .0) p
 
--- ---- every check stands in its order
-
-pub of-marks : (ls : Lists) (c : MarkCheck) → List·Memᴰ c (markChecks (ls .marks) .order)
-of-marks ls MarkCode = List·Memᴰ·head refl
-of-marks ls MarkDate = List·Memᴰ·tail (List·Memᴰ·head refl)
-of-marks ls MarkLimit = List·Memᴰ·tail (List·Memᴰ·tail (List·Memᴰ·head refl))
-of-marks ls MarkTick = List·Memᴰ·tail (List·Memᴰ·tail (List·Memᴰ·tail (List·Memᴰ·head refl)))
-of-marks ls MarkRepeated = List·Memᴰ·tail (List·Memᴰ·tail (List·Memᴰ·tail (List·Memᴰ·tail (List·Memᴰ·head refl))))
-
-pub of-corrections : (ls : Lists) (c : CorrectionCheck) → List·Memᴰ c (correctionChecks (ls .marks) (ls .corrections) .order)
-of-corrections ls CorrectionMark = List·Memᴰ·head refl
-of-corrections ls CorrectionPrice = List·Memᴰ·tail (List·Memᴰ·head refl)
-of-corrections ls CorrectionClash = List·Memᴰ·tail (List·Memᴰ·tail (List·Memᴰ·head refl))
-
-pub of-positions : (ls : Lists) (c : PositionCheck) → List·Memᴰ c (positionChecks (ls .marks) (ls .positions) .order)
-of-positions ls PositionMark = List·Memᴰ·head refl
-of-positions ls PositionLots = List·Memᴰ·tail (List·Memᴰ·head refl)
-
--- ---- so that no record fails it
+-- ---- no record fails a check
 
 lots-bound : (z : ℤ) → badLots z ≡ false → natAbs z ≤ lotsLimit
 lots-bound (pos n) e = ltb-false lotsLimit n (or-right (isZero (pos n) || ltZ (pos n) (negℤ (pos lotsLimit))) _ e)
@@ -86,13 +69,13 @@ lots-bound (negsuc n) e =
 
 module _ (ls : Lists) (passed : decisionOf (recordChecks ls) ≡ Unmet) (i : ℕ) where
   pub mark-passes : (c : MarkCheck) → i < length (ls .marks) → markCheck (ls .marks) c .test i ≡ false
-  mark-passes c h = passed-at (markChecks (ls .marks)) (parts ls passed .0) (of-marks ls c) h
+  mark-passes c h = passed-at (markChecks (ls .marks)) (parts ls passed .0) (of-marks (ls .marks) c) h
 
   pub correction-passes : (c : CorrectionCheck) → i < length (ls .corrections) → correctionCheck (ls .marks) (ls .corrections) c .test i ≡ false
-  correction-passes c h = passed-at (correctionChecks (ls .marks) (ls .corrections)) (parts ls passed .1) (of-corrections ls c) h
+  correction-passes c h = passed-at (correctionChecks (ls .marks) (ls .corrections)) (parts ls passed .1) (of-corrections (ls .marks) (ls .corrections) c) h
 
   pub position-passes : (c : PositionCheck) → i < length (ls .positions) → positionCheck (ls .marks) (ls .positions) c .test i ≡ false
-  position-passes c h = passed-at (positionChecks (ls .marks) (ls .positions)) (parts ls passed .2) (of-positions ls c) h
+  position-passes c h = passed-at (positionChecks (ls .marks) (ls .positions)) (parts ls passed .2) (of-positions (ls .marks) (ls .positions) c) h
 
   pub mark-in : i < length (ls .positions) → positionAt (ls .positions) i .mark < length (ls .marks)
   mark-in h = leb-false _ _ (position-passes PositionMark h)

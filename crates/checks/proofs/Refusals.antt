@@ -1,26 +1,33 @@
 -- What the checks answer is what their conditions in words say, in both directions and with the index: a file or a list is refused with k at i
 -- exactly where the condition of check k is the first that holds, at i first, and passes exactly where none holds.
 use mathlib.Core.Path.{_≡_, refl, ap}
-use mathlib.Core.List.{List, [], _∷_, map}
+use mathlib.Core.List.{List}
 use mathlib.Core.Logic.{_↔_}
-use Prim.Native.Nat.{ℕ}
+use Prim.Native.Nat.{ℕ, _<_}
 use native.Mathlib.Omega.{arith}
-use Rattle.numbers.specs.Checks.{Refuses, Passes, numberOf, decisionOf}
+use lib.ListN.{length}
+use Rattle.numbers.specs.Bytes.{u32At}
+use Rattle.numbers.specs.Checks.{Refuses, Passes, decisionOf}
 use Rattle.numbers.specs.declared.deciding.Decision.{Decision}
 use Rattle.numbers.specs.declared.deciding.Decision.the-variants.{Met, Unmet}
 use Rattle.numbers.proofs.Checks.{refuses-exactly, passes-exactly}
 use Rattle.dayfile.specs.Limits.{Limits}
 use Rattle.dayfile.specs.Layout.{countsOf, listsOfFile}
+use Rattle.dayfile.specs.Opening.{openedOf}
+use Rattle.dayfile.specs.declared.file.Opened.the-variants.{File}
+use Rattle.dayfile.proofs.Opening.{opens}
+use Rattle.dayfile.proofs.Parts.{header-counts}
 use Rattle.dayfile.specs.declared.records.Mark.{Mark}
 use Rattle.dayfile.specs.declared.records.Correction.{Correction}
 use Rattle.dayfile.specs.declared.records.Position.{Position}
 use Rattle.dayfile.specs.declared.file.DayFile.{DayFile}
-use Rattle.checks.specs.Marks.{marksAlone}
-use Rattle.checks.specs.Corrections.{correctionsAlone, correctedOf, resentOf}
-use Rattle.checks.specs.Positions.{positionsAlone}
-use Rattle.checks.specs.Judging.{fileChecks, judgedBy, judgedOf}
+use Rattle.checks.specs.Marks.{MarkCheck, markCheck, marksAlone}
+use Rattle.checks.specs.Corrections.{CorrectionCheck, correctionCheck, correctionsAlone, correctedOf, resentOf}
+use Rattle.checks.specs.Positions.{PositionCheck, positionCheck, positionsAlone}
+use Rattle.checks.specs.Judging.{recordChecks, fileChecks, judgedBy, judgedOf}
 use Rattle.checks.specs.declared.judging.Judged.the-variants.{Sound, Refused}
-use Rattle.checks.proofs.Agreement.{marks-alone-agree, corrections-alone-agree, positions-alone-agree, file-agrees}
+use Rattle.checks.proofs.Agreement.{marks-agree, corrections-agree, positions-agree, marks-alone-agree, corrections-alone-agree, positions-alone-agree, file-agrees}
+use Rattle.checks.proofs.Passed.{passed-parts, mark-passes, correction-passes, position-passes}
 
 -- ---- a file, by `judge`
 
@@ -48,9 +55,25 @@ module _ (l : Limits) (f : List ℕ) where
     λ h. ap (judgedBy (countsOf f) (resentOf (listsOfFile f .corrections))) (passes-exactly (fileChecks l f) (file-agrees l f) .1 h),
   )
 
-  -- 1 to 13, in this order
-  pub numbers-in-order : map (numberOf (fileChecks l f)) (fileChecks l f .order) ≡ 1 ∷ 2 ∷ 3 ∷ 4 ∷ 5 ∷ 6 ∷ 7 ∷ 8 ∷ 9 ∷ 10 ∷ 11 ∷ 12 ∷ 13 ∷ []
-  numbers-in-order = refl
+  -- Nothing is wrong with any record of a sound file, as many as its header counts.
+  module _ {c : DayFile} {n : ℕ} (e : judgedOf l f ≡ Sound c n) where
+    passed : (openedOf l f ≡ File (countsOf f)) × (decisionOf (recordChecks (listsOfFile f)) ≡ Unmet)
+    unfolding judgedOf
+    passed = passed-parts l f (sound-by _ _ (decisionOf (fileChecks l f)) e)
+
+    counts : (length (listsOfFile f .marks) ≡ u32At f 0) × (length (listsOfFile f .corrections) ≡ u32At f 8) × (length (listsOfFile f .positions) ≡ u32At f 16)
+    counts = header-counts f (opens l f (passed .0) .0 .ends-at)
+
+    pub marks-right : (i : ℕ) → i < u32At f 0 → (k : MarkCheck) → ¬ (markCheck (listsOfFile f .marks) k .Wrong i)
+    marks-right i h k = marks-agree (listsOfFile f .marks) k i .no (mark-passes (listsOfFile f) (passed .1) i k (rw (counts .0) h))
+
+    pub corrections-right : (i : ℕ) → i < u32At f 8 → (k : CorrectionCheck) → ¬ (correctionCheck (listsOfFile f .marks) (listsOfFile f .corrections) k .Wrong i)
+    corrections-right i h k =
+        corrections-agree (listsOfFile f .marks) (listsOfFile f .corrections) k i .no (correction-passes (listsOfFile f) (passed .1) i k (rw (counts .1) h))
+
+    pub positions-right : (i : ℕ) → i < u32At f 16 → (k : PositionCheck) → ¬ (positionCheck (listsOfFile f .marks) (listsOfFile f .positions) k .Wrong i)
+    positions-right i h k =
+        positions-agree (listsOfFile f .marks) (listsOfFile f .positions) k i .no (position-passes (listsOfFile f) (passed .1) i k (rw (counts .2) h))
 
 -- ---- lists that stand in no file, by `check_marks`, `check_corrections` and `check_positions`
 

@@ -94,15 +94,19 @@ positionFindings ms ps n =
 abbrev pub also : Found → Bool → ℕ → Found
 also o b i = orElse o (cond b (At i) Nothing)
 
-abbrev pub withMark : MarkFindings → MarkLook → ℕ → MarkFindings
-withMark f l i =
-    record { code = also (f .code) (l .code) i; date = also (f .date) (l .date) i; high = also (f .high) (l .high) i; off = also (f .off) (l .off) i }
+pub record WithMark (f : MarkFindings) (l : MarkLook) (i : ℕ) (r : MarkFindings) : Type 0 where
+  pub code : r .code ≡ also (f .code) (l .code) i
+  pub date : r .date ≡ also (f .date) (l .date) i
+  pub high : r .high ≡ also (f .high) (l .high) i
+  pub off : r .off ≡ also (f .off) (l .off) i
 
-abbrev pub withCorrection : CorrectionFindings → CorrectionLook → ℕ → CorrectionFindings
-withCorrection f l i = record { unnamed = also (f .unnamed) (l .unnamed) i; price = also (f .price) (l .price) i }
+pub record WithCorrection (f : CorrectionFindings) (l : CorrectionLook) (i : ℕ) (r : CorrectionFindings) : Type 0 where
+  pub unnamed : r .unnamed ≡ also (f .unnamed) (l .unnamed) i
+  pub price : r .price ≡ also (f .price) (l .price) i
 
-abbrev pub withPosition : PositionFindings → PositionLook → ℕ → PositionFindings
-withPosition f l i = record { unnamed = also (f .unnamed) (l .unnamed) i; lots = also (f .lots) (l .lots) i }
+pub record WithPosition (f : PositionFindings) (l : PositionLook) (i : ℕ) (r : PositionFindings) : Type 0 where
+  pub unnamed : r .unnamed ≡ also (f .unnamed) (l .unnamed) i
+  pub lots : r .lots ≡ also (f .lots) (l .lots) i
 
 -- the checks one after the other, by what was found
 abbrev pub markDecision : MarkFindings → Found → Decision

@@ -22,7 +22,7 @@ ghost use Rattle.numbers.specs.Checks.{decisionOf};
 ghost use Rattle.dayfile.specs.Limits.{fileLimits};
 ghost use Rattle.dayfile.specs.Records.{marksIn, correctionsIn, correctionAt};
 ghost use Rattle.checks.specs.Corrections.{correctionChecks, correctedOf, resentOf};
-ghost use Rattle.checks.specs.Looks.{correctionLook, anyCorrection, correctionFindings, withCorrection, correctionDecision, Ticks};
+ghost use Rattle.checks.specs.Looks.{correctionLook, anyCorrection, correctionFindings, WithCorrection, correctionDecision, Ticks};
 
 // What is wrong with a correction by itself.
 pub struct CorrectionLook {
@@ -79,7 +79,7 @@ pub struct CorrectionFindings {
 
 // One correction more.
 fn with_correction(f: CorrectionFindings, l: CorrectionLook, i: usize) -> CorrectionFindings
-    ensures { λ r. ⌜ r ≡ withCorrection f l i ⌝ }
+    ensures { λ r. ⌜ WithCorrection f l i r ⌝ }
 {
     let unnamed = f.unnamed;
     let price = f.price;

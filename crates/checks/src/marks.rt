@@ -22,7 +22,7 @@ ghost use Rattle.dayfile.specs.Limits.{fileLimits};
 ghost use Rattle.dayfile.specs.Records.{marksIn, markAt};
 ghost use Rattle.checks.specs.Table.{aboveLimit};
 ghost use Rattle.checks.specs.Marks.{markChecks, marksAlone};
-ghost use Rattle.checks.specs.Looks.{markLook, lookBy, anyMark, markFindings, withMark, markDecision, Ticks};
+ghost use Rattle.checks.specs.Looks.{markLook, lookBy, anyMark, markFindings, WithMark, markDecision, Ticks};
 
 const YEAR_LIMIT: u8 = 99;
 
@@ -107,7 +107,7 @@ pub struct MarkFindings {
 
 // One mark more.
 fn with_mark(f: MarkFindings, l: MarkLook, i: usize) -> MarkFindings
-    ensures { λ r. ⌜ r ≡ withMark f l i ⌝ }
+    ensures { λ r. ⌜ WithMark f l i r ⌝ }
 {
     let code = f.code;
     let date = f.date;

@@ -15,7 +15,7 @@ ghost use Rattle.numbers.specs.Checks.{decisionOf};
 ghost use Rattle.dayfile.specs.Limits.{fileLimits};
 ghost use Rattle.dayfile.specs.Records.{marksIn, positionsIn, positionAt};
 ghost use Rattle.checks.specs.Positions.{positionChecks, positionsAlone};
-ghost use Rattle.checks.specs.Looks.{rawLook, positionLook, anyPosition, positionFindings, withPosition, positionDecision};
+ghost use Rattle.checks.specs.Looks.{rawLook, positionLook, anyPosition, positionFindings, WithPosition, positionDecision};
 
 // The most lots that a position may have, bought or sold.
 const LOTS_LIMIT: u32 = 1_000_000;
@@ -78,7 +78,7 @@ pub struct PositionFindings {
 
 // One position more.
 fn with_position(f: PositionFindings, l: PositionLook, i: usize) -> PositionFindings
-    ensures { λ r. ⌜ r ≡ withPosition f l i ⌝ }
+    ensures { λ r. ⌜ WithPosition f l i r ⌝ }
 {
     let unnamed = f.unnamed;
     let lots = f.lots;
