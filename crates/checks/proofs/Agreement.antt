@@ -2,7 +2,7 @@
 use mathlib.Core.Path.{_≡_, refl, ap, ap₂}
 use mathlib.Core.Bool.{not, _||_, _&&_}
 use mathlib.Core.List.{List, _∷_, List·Memᴰ, List·Memᴰ·head, List·Memᴰ·tail}
-use mathlib.Core.Logic.{_⊎_, inl, inr, ⊎-elim}
+use mathlib.Core.Logic.{_⊎_}
 use Prim.Native.Nat.{ℕ, _%_, _<_, _∣_}
 use native.Mathlib.Nat.{mod-one}
 use native.Mathlib.Omega.{arith}
@@ -12,15 +12,15 @@ use lib.ListN.{length}
 use lib.Signed.{ltZ, _<ℤ_}
 use Rattle.numbers.specs.Integers.{isZero}
 use Rattle.numbers.proofs.Truth.{Tells, not-both, tells-as, tells-or, tells-and, tells-not, tells-lt, tells-le, tells-eq, tells-less, tells-divides, tells-some, or-three, or-three-back}
-use Rattle.numbers.specs.Checks.{wholly, _before_}
-use Rattle.numbers.proofs.Checks.{Agree, agree-wholly, agree-before}
+use Rattle.numbers.specs.Checks.{only, _before_}
+use Rattle.numbers.proofs.Checks.{Agree, agree-only, agree-before}
 use Rattle.products.specs.Products.{priceLimit, find, monthsOf, Unlisted}
 use Rattle.products.specs.declared.table.Code.{Code}
 use Rattle.products.specs.declared.table.Product.{Product}
 use Rattle.products.specs.declared.table.Found.the-variants.{At}
 use Rattle.products.proofs.Finding.{tells-unlisted, tells-product}
 use Rattle.products.proofs.Months.{month-exactly}
-use Rattle.dayfile.specs.Limits.{Limits, fileLimits, yearLimit, lotsLimit}
+use Rattle.dayfile.specs.Limits.{Limits, yearLimit, lotsLimit}
 use Rattle.dayfile.specs.Records.{Lists, markAt, correctionAt, positionAt}
 use Rattle.dayfile.specs.Layout.{listsOfFile}
 use Rattle.dayfile.specs.Opening.{headerChecks}
@@ -29,9 +29,9 @@ use Rattle.dayfile.specs.declared.records.Correction.{Correction}
 use Rattle.dayfile.specs.declared.records.Position.{Position}
 use Rattle.dayfile.proofs.Refusals.{header-agrees}
 use Rattle.checks.specs.Table.{aboveLimit, listed, listedIn, quoted, quotedIn, tickOf, tickIn}
-use Rattle.checks.specs.Marks.{Quoted, OffTick, offTick, SameContract, sameContract, contractPair, MarkCheck, MarkCode, MarkDate, MarkLimit, MarkTick, MarkRepeated, markChecks, manyMarks, marksAlone}
-use Rattle.checks.specs.Corrections.{Clash, clashing, clashPair, CorrectionCheck, CorrectionMark, CorrectionPrice, CorrectionClash, correctionChecks, manyCorrections, correctionsAlone}
-use Rattle.checks.specs.Positions.{badLots, PositionCheck, PositionMark, PositionLots, positionChecks, manyPositions, positionsAlone}
+use Rattle.checks.specs.Marks.{Quoted, OffTick, offTick, SameContract, sameContract, contractPair, MarkCheck, MarkCode, MarkDate, MarkLimit, MarkTick, MarkRepeated, markChecks, tooManyMarks, markListChecks}
+use Rattle.checks.specs.Corrections.{Clash, clashing, clashPair, CorrectionCheck, CorrectionMark, CorrectionPrice, CorrectionClash, correctionChecks, tooManyCorrections, correctionListChecks}
+use Rattle.checks.specs.Positions.{badLots, PositionCheck, PositionMark, PositionLots, positionChecks, tooManyPositions, positionListChecks}
 use Rattle.checks.specs.Judging.{recordChecks, fileChecks}
 
 -- ---- the product table
@@ -140,23 +140,23 @@ of-positions ms ps PositionLots = next here
 many : (a m b n : ℕ) → Tells (ltb a m || ltb b n) ((a < m) ⊎ (b < n))
 many a m b n = tells-or (ltb a m) (ltb b n) (tells-lt a m) (tells-lt b n)
 
-pub marks-alone-agree : (ms : List Mark) → Agree (marksAlone ms)
-marks-alone-agree ms =
-    agree-before (wholly (manyMarks ms)) (markChecks ms) (agree-wholly (manyMarks ms) (λ i. tells-lt (fileLimits .marks) (length ms))) (marks-agree ms)
+pub mark-lists-agree : (l : Limits) (ms : List Mark) → Agree (markListChecks l ms)
+mark-lists-agree l ms =
+    agree-before (only (tooManyMarks l ms)) (markChecks ms) (agree-only (tooManyMarks l ms) (λ i. tells-lt (l .marks) (length ms))) (marks-agree ms)
 
-pub corrections-alone-agree : (ms : List Mark) (cs : List Correction) → Agree (correctionsAlone ms cs)
-corrections-alone-agree ms cs =
-    agree-before (wholly (manyCorrections ms cs)) (correctionChecks ms cs)
-    (agree-wholly (manyCorrections ms cs) (λ i. many (fileLimits .marks) (length ms) (fileLimits .corrections) (length cs))) (corrections-agree ms cs)
+pub correction-lists-agree : (l : Limits) (ms : List Mark) (cs : List Correction) → Agree (correctionListChecks l ms cs)
+correction-lists-agree l ms cs =
+    agree-before (only (tooManyCorrections l ms cs)) (correctionChecks ms cs)
+    (agree-only (tooManyCorrections l ms cs) (λ i. many (l .marks) (length ms) (l .corrections) (length cs))) (corrections-agree ms cs)
 
-pub positions-alone-agree : (ms : List Mark) (ps : List Position) → Agree (positionsAlone ms ps)
-positions-alone-agree ms ps =
-    agree-before (wholly (manyPositions ms ps)) (positionChecks ms ps)
-    (agree-wholly (manyPositions ms ps) (λ i. many (fileLimits .marks) (length ms) (fileLimits .positions) (length ps))) (positions-agree ms ps)
+pub position-lists-agree : (l : Limits) (ms : List Mark) (ps : List Position) → Agree (positionListChecks l ms ps)
+position-lists-agree l ms ps =
+    agree-before (only (tooManyPositions l ms ps)) (positionChecks ms ps)
+    (agree-only (tooManyPositions l ms ps) (λ i. many (l .marks) (length ms) (l .positions) (length ps))) (positions-agree ms ps)
 
 -- ---- three lists, and a file
 
-pub records-agree : (ls : Lists) → Agree (recordChecks ls)
+records-agree : (ls : Lists) → Agree (recordChecks ls)
 records-agree ls =
     let c = correctionChecks (ls .marks) (ls .corrections) in
     let p = positionChecks (ls .marks) (ls .positions) in

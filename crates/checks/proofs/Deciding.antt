@@ -2,33 +2,32 @@
 use mathlib.Core.Path.{_≡_, refl, sym, ap, _∙_}
 use mathlib.Core.Bool.{Bool, true, false, _||_}
 use mathlib.Core.List.{List}
-use Prim.Native.Nat.{ℕ, _+_, _≤_, _<_}
-use lib.Dec.{leb}
+use Prim.Native.Nat.{ℕ, _+_, _<_}
 use lib.ListN.{length}
 use Rattle.numbers.specs.Folds.{repeating, first, some, isSome}
-use Rattle.numbers.specs.Order.{andThen}
-use Rattle.numbers.specs.Checks.{Checks, Check, wholly, _before_, decisionOf, findingOf}
+use Rattle.numbers.specs.Checks.{Checks, Check, only, _before_, decisionOf, findingOf}
 use Rattle.numbers.specs.declared.Found.{Found}
 use Rattle.numbers.specs.declared.Found.the-variants.{Nothing}
 use Rattle.numbers.specs.declared.deciding.Decision.{Decision}
 use Rattle.numbers.specs.declared.deciding.Decision.the-variants.{Met, Unmet}
 use Rattle.numbers.proofs.Truth.{or-left, or-right}
 use Rattle.numbers.proofs.Searches.{first-next, clear-first, some-clear, found-nothing}
-use Rattle.numbers.proofs.Checks.{unmet, decision-by-steps, decision-wholly, decision-before}
+use Rattle.numbers.proofs.Checks.{unmet, decision-by-steps, decision-only, decision-before}
+use Rattle.dayfile.specs.Limits.{Limits}
 use Rattle.dayfile.specs.Records.{markAt, correctionAt, positionAt}
 use Rattle.dayfile.specs.declared.records.Mark.{Mark}
 use Rattle.dayfile.specs.declared.records.Correction.{Correction}
 use Rattle.dayfile.specs.declared.records.Position.{Position}
-use Rattle.checks.specs.Marks.{badCode, badDate, highMark, offMark, contractPair, MarkCheck, MarkCode, MarkDate, MarkLimit, MarkTick, MarkRepeated, markChecks}
-use Rattle.checks.specs.Corrections.{badPrice, clashPair, CorrectionCheck, CorrectionMark, CorrectionPrice, CorrectionClash, correctionChecks, manyCorrections, correctedOf, resentOf}
-use Rattle.checks.specs.Positions.{badLots, PositionCheck, PositionMark, PositionLots, positionChecks}
-use Rattle.checks.specs.Looks.{markLook, correctionLook, positionLook, anyMark, anyCorrection, anyPosition, markFindings, correctionFindings, positionFindings, WithMark, WithCorrection, WithPosition, markDecision, correctionDecision, positionDecision}
-use Rattle.checks.specs.declared.marks.MarkLook.{MarkLook}
+use Rattle.checks.specs.Marks.{contractPair, markCheck, MarkCheck, MarkCode, MarkDate, MarkLimit, MarkTick, MarkRepeated, markChecks}
+use Rattle.checks.specs.Corrections.{clashPair, correctionCheck, CorrectionCheck, CorrectionMark, CorrectionPrice, CorrectionClash, correctionChecks, tooManyCorrections, correctionsJudged, resentOf}
+use Rattle.checks.specs.Positions.{positionCheck, PositionCheck, PositionMark, PositionLots, positionChecks}
+use Rattle.checks.specs.Faults.{markFaults, correctionFaults, positionFaults, anyMarkFault, anyCorrectionFault, anyPositionFault, markFindings, correctionFindings, positionFindings, WithMark, WithCorrection, WithPosition, markDecision, correctionDecision, positionDecision}
+use Rattle.checks.specs.declared.marks.MarkFaults.{MarkFaults}
 use Rattle.checks.specs.declared.marks.MarkFindings.{MarkFindings}
-use Rattle.checks.specs.declared.corrections.Corrected.{Corrected}
-use Rattle.checks.specs.declared.corrections.CorrectionLook.{CorrectionLook}
+use Rattle.checks.specs.declared.corrections.CorrectionsJudged.{CorrectionsJudged}
+use Rattle.checks.specs.declared.corrections.CorrectionFaults.{CorrectionFaults}
 use Rattle.checks.specs.declared.corrections.CorrectionFindings.{CorrectionFindings}
-use Rattle.checks.specs.declared.positions.PositionLook.{PositionLook}
+use Rattle.checks.specs.declared.positions.PositionFaults.{PositionFaults}
 use Rattle.checks.specs.declared.positions.PositionFindings.{PositionFindings}
 
 -- ---- one record more
@@ -37,11 +36,11 @@ pub no-marks : (ms : List Mark) → record { code = Nothing; date = Nothing; hig
 unfolding first
 no-marks ms = refl
 
-pub no-corrections : (ms : List Mark) (cs : List Correction) → record { unnamed = Nothing; price = Nothing } ≡ correctionFindings ms cs 0
+pub no-corrections : (ms : List Mark) (cs : List Correction) → record { missing = Nothing; price = Nothing } ≡ correctionFindings ms cs 0
 unfolding first
 no-corrections ms cs = refl
 
-pub no-positions : (ms : List Mark) (ps : List Position) → record { unnamed = Nothing; lots = Nothing } ≡ positionFindings ms ps 0
+pub no-positions : (ms : List Mark) (ps : List Position) → record { missing = Nothing; lots = Nothing } ≡ positionFindings ms ps 0
 unfolding first
 no-positions ms ps = refl
 
@@ -49,33 +48,33 @@ findings-by : {a a′ b b′ c c′ d d′ : Found} → a ≡ a′ → b ≡ b�
     → _≡_ {A = MarkFindings} (record { code = a; date = b; high = c; off = d }) (record { code = a′; date = b′; high = c′; off = d′ })
 findings-by p q r s = cc
 
-pub mark-more : (ms : List Mark) (i : ℕ) {f r : MarkFindings} {l : MarkLook} → f ≡ markFindings ms i → l ≡ markLook (markAt ms i) → WithMark f l i r → r ≡ markFindings ms (i + 1)
+pub mark-more : (ms : List Mark) (i : ℕ) {f r : MarkFindings} {l : MarkFaults} → f ≡ markFindings ms i → l ≡ markFaults (markAt ms i) → WithMark f l i r → r ≡ markFindings ms (i + 1)
 mark-more ms i p q w =
     findings-by
-    (first-next (λ i. badCode (markAt ms i)) i (ap (λ (f : MarkFindings). f .code) p) (ap (λ (l : MarkLook). l .code) q) (w .code))
-    (first-next (λ i. badDate (markAt ms i)) i (ap (λ (f : MarkFindings). f .date) p) (ap (λ (l : MarkLook). l .date) q) (w .date))
-    (first-next (λ i. highMark (markAt ms i)) i (ap (λ (f : MarkFindings). f .high) p) (ap (λ (l : MarkLook). l .high) q) (w .high))
-    (first-next (λ i. offMark (markAt ms i)) i (ap (λ (f : MarkFindings). f .off) p) (ap (λ (l : MarkLook). l .off) q) (w .off))
+    (first-next (markCheck ms MarkCode .test) i (ap (λ (f : MarkFindings). f .code) p) (ap (λ (l : MarkFaults). l .code) q) (w .code))
+    (first-next (markCheck ms MarkDate .test) i (ap (λ (f : MarkFindings). f .date) p) (ap (λ (l : MarkFaults). l .date) q) (w .date))
+    (first-next (markCheck ms MarkLimit .test) i (ap (λ (f : MarkFindings). f .high) p) (ap (λ (l : MarkFaults). l .high) q) (w .high))
+    (first-next (markCheck ms MarkTick .test) i (ap (λ (f : MarkFindings). f .off) p) (ap (λ (l : MarkFaults). l .off) q) (w .off))
 
-corrections-by : {a a′ b b′ : Found} → a ≡ a′ → b ≡ b′ → _≡_ {A = CorrectionFindings} (record { unnamed = a; price = b }) (record { unnamed = a′; price = b′ })
+corrections-by : {a a′ b b′ : Found} → a ≡ a′ → b ≡ b′ → _≡_ {A = CorrectionFindings} (record { missing = a; price = b }) (record { missing = a′; price = b′ })
 corrections-by p q = cc
 
-pub correction-more : (ms : List Mark) (cs : List Correction) (i : ℕ) {f r : CorrectionFindings} {l : CorrectionLook} → f ≡ correctionFindings ms cs i
-    → l ≡ correctionLook ms (correctionAt cs i) → WithCorrection f l i r → r ≡ correctionFindings ms cs (i + 1)
+pub correction-more : (ms : List Mark) (cs : List Correction) (i : ℕ) {f r : CorrectionFindings} {l : CorrectionFaults} → f ≡ correctionFindings ms cs i
+    → l ≡ correctionFaults ms (correctionAt cs i) → WithCorrection f l i r → r ≡ correctionFindings ms cs (i + 1)
 correction-more ms cs i p q w =
     corrections-by
-    (first-next (λ i. leb (length ms) (correctionAt cs i .mark)) i (ap (λ (f : CorrectionFindings). f .unnamed) p) (ap (λ (l : CorrectionLook). l .unnamed) q) (w .unnamed))
-    (first-next (λ i. badPrice (markAt ms (correctionAt cs i .mark)) (correctionAt cs i .price)) i (ap (λ (f : CorrectionFindings). f .price) p) (ap (λ (l : CorrectionLook). l .price) q) (w .price))
+    (first-next (correctionCheck ms cs CorrectionMark .test) i (ap (λ (f : CorrectionFindings). f .missing) p) (ap (λ (l : CorrectionFaults). l .missing) q) (w .missing))
+    (first-next (correctionCheck ms cs CorrectionPrice .test) i (ap (λ (f : CorrectionFindings). f .price) p) (ap (λ (l : CorrectionFaults). l .price) q) (w .price))
 
-positions-by : {a a′ b b′ : Found} → a ≡ a′ → b ≡ b′ → _≡_ {A = PositionFindings} (record { unnamed = a; lots = b }) (record { unnamed = a′; lots = b′ })
+positions-by : {a a′ b b′ : Found} → a ≡ a′ → b ≡ b′ → _≡_ {A = PositionFindings} (record { missing = a; lots = b }) (record { missing = a′; lots = b′ })
 positions-by p q = cc
 
-pub position-more : (ms : List Mark) (ps : List Position) (i : ℕ) {f r : PositionFindings} {l : PositionLook} → f ≡ positionFindings ms ps i
-    → l ≡ positionLook ms (positionAt ps i) → WithPosition f l i r → r ≡ positionFindings ms ps (i + 1)
+pub position-more : (ms : List Mark) (ps : List Position) (i : ℕ) {f r : PositionFindings} {l : PositionFaults} → f ≡ positionFindings ms ps i
+    → l ≡ positionFaults ms (positionAt ps i) → WithPosition f l i r → r ≡ positionFindings ms ps (i + 1)
 position-more ms ps i p q w =
     positions-by
-    (first-next (λ i. leb (length ms) (positionAt ps i .mark)) i (ap (λ (f : PositionFindings). f .unnamed) p) (ap (λ (l : PositionLook). l .unnamed) q) (w .unnamed))
-    (first-next (λ i. badLots (positionAt ps i .lots)) i (ap (λ (f : PositionFindings). f .lots) p) (ap (λ (l : PositionLook). l .lots) q) (w .lots))
+    (first-next (positionCheck ms ps PositionMark .test) i (ap (λ (f : PositionFindings). f .missing) p) (ap (λ (l : PositionFaults). l .missing) q) (w .missing))
+    (first-next (positionCheck ms ps PositionLots .test) i (ap (λ (f : PositionFindings). f .lots) p) (ap (λ (l : PositionFaults). l .lots) q) (w .lots))
 
 -- ---- the order, by what was found
 
@@ -93,42 +92,42 @@ positions-decided ms ps p e = e ∙ rw p (decision-by-steps (positionChecks ms p
 
 -- ---- nothing is wrong
 
-module _ (ms : List Mark) (none : some (λ i. anyMark (markLook (markAt ms i))) (length ms) ≡ false) where
-  mark-clear : (i : ℕ) → i < length ms → anyMark (markLook (markAt ms i)) ≡ false
-  mark-clear i h = some-clear (λ i. anyMark (markLook (markAt ms i))) (length ms) i none h
+module _ (ms : List Mark) (none : some (λ i. anyMarkFault (markFaults (markAt ms i))) (length ms) ≡ false) where
+  mark-clear : (i : ℕ) → i < length ms → anyMarkFault (markFaults (markAt ms i)) ≡ false
+  mark-clear i h = some-clear (λ i. anyMarkFault (markFaults (markAt ms i))) (length ms) i none h
 
   pub marks-clear : first (repeating (contractPair ms)) (length ms) ≡ Nothing → decisionOf (markChecks ms) ≡ Unmet
   marks-clear alone = unmet (markChecks ms) (λ c m. clear c)
     where
       clear : (c : MarkCheck) → findingOf (markChecks ms) c ≡ Nothing
-      clear MarkCode = clear-first _ _ (λ i h. let l = markLook (markAt ms i) in or-left (l .code) _ (or-left (l .code || l .date) _ (or-left (l .code || l .date || l .high) _ (mark-clear i h))))
-      clear MarkDate = clear-first _ _ (λ i h. let l = markLook (markAt ms i) in or-right (l .code) _ (or-left (l .code || l .date) _ (or-left (l .code || l .date || l .high) _ (mark-clear i h))))
-      clear MarkLimit = clear-first _ _ (λ i h. let l = markLook (markAt ms i) in or-right (l .code || l .date) _ (or-left (l .code || l .date || l .high) _ (mark-clear i h)))
-      clear MarkTick = clear-first _ _ (λ i h. let l = markLook (markAt ms i) in or-right (l .code || l .date || l .high) _ (mark-clear i h))
+      clear MarkCode = clear-first _ _ (λ i h. let l = markFaults (markAt ms i) in or-left (l .code) _ (or-left (l .code || l .date) _ (or-left (l .code || l .date || l .high) _ (mark-clear i h))))
+      clear MarkDate = clear-first _ _ (λ i h. let l = markFaults (markAt ms i) in or-right (l .code) _ (or-left (l .code || l .date) _ (or-left (l .code || l .date || l .high) _ (mark-clear i h))))
+      clear MarkLimit = clear-first _ _ (λ i h. let l = markFaults (markAt ms i) in or-right (l .code || l .date) _ (or-left (l .code || l .date || l .high) _ (mark-clear i h)))
+      clear MarkTick = clear-first _ _ (λ i h. let l = markFaults (markAt ms i) in or-right (l .code || l .date || l .high) _ (mark-clear i h))
       clear MarkRepeated = alone
 
-module _ (ms : List Mark) (cs : List Correction) (none : some (λ i. anyCorrection (correctionLook ms (correctionAt cs i))) (length cs) ≡ false) where
-  correction-clear : (i : ℕ) → i < length cs → anyCorrection (correctionLook ms (correctionAt cs i)) ≡ false
-  correction-clear i h = some-clear (λ i. anyCorrection (correctionLook ms (correctionAt cs i))) (length cs) i none h
+module _ (ms : List Mark) (cs : List Correction) (none : some (λ i. anyCorrectionFault (correctionFaults ms (correctionAt cs i))) (length cs) ≡ false) where
+  correction-clear : (i : ℕ) → i < length cs → anyCorrectionFault (correctionFaults ms (correctionAt cs i)) ≡ false
+  correction-clear i h = some-clear (λ i. anyCorrectionFault (correctionFaults ms (correctionAt cs i))) (length cs) i none h
 
   pub corrections-clear : first (repeating (clashPair cs)) (length cs) ≡ Nothing → decisionOf (correctionChecks ms cs) ≡ Unmet
   corrections-clear apart = unmet (correctionChecks ms cs) (λ c m. clear c)
     where
       clear : (c : CorrectionCheck) → findingOf (correctionChecks ms cs) c ≡ Nothing
-      clear CorrectionMark = clear-first _ _ (λ i h. or-left (correctionLook ms (correctionAt cs i) .unnamed) _ (correction-clear i h))
-      clear CorrectionPrice = clear-first _ _ (λ i h. or-right (correctionLook ms (correctionAt cs i) .unnamed) _ (correction-clear i h))
+      clear CorrectionMark = clear-first _ _ (λ i h. or-left (correctionFaults ms (correctionAt cs i) .missing) _ (correction-clear i h))
+      clear CorrectionPrice = clear-first _ _ (λ i h. or-right (correctionFaults ms (correctionAt cs i) .missing) _ (correction-clear i h))
       clear CorrectionClash = apart
 
-module _ (ms : List Mark) (ps : List Position) (none : some (λ i. anyPosition (positionLook ms (positionAt ps i))) (length ps) ≡ false) where
-  position-clear : (i : ℕ) → i < length ps → anyPosition (positionLook ms (positionAt ps i)) ≡ false
-  position-clear i h = some-clear (λ i. anyPosition (positionLook ms (positionAt ps i))) (length ps) i none h
+module _ (ms : List Mark) (ps : List Position) (none : some (λ i. anyPositionFault (positionFaults ms (positionAt ps i))) (length ps) ≡ false) where
+  position-clear : (i : ℕ) → i < length ps → anyPositionFault (positionFaults ms (positionAt ps i)) ≡ false
+  position-clear i h = some-clear (λ i. anyPositionFault (positionFaults ms (positionAt ps i))) (length ps) i none h
 
   pub positions-clear : decisionOf (positionChecks ms ps) ≡ Unmet
   positions-clear = unmet (positionChecks ms ps) (λ c m. clear c)
     where
       clear : (c : PositionCheck) → findingOf (positionChecks ms ps) c ≡ Nothing
-      clear PositionMark = clear-first _ _ (λ i h. or-left (positionLook ms (positionAt ps i) .unnamed) _ (position-clear i h))
-      clear PositionLots = clear-first _ _ (λ i h. or-right (positionLook ms (positionAt ps i) .unnamed) _ (position-clear i h))
+      clear PositionMark = clear-first _ _ (λ i h. or-left (positionFaults ms (positionAt ps i) .missing) _ (position-clear i h))
+      clear PositionLots = clear-first _ _ (λ i h. or-right (positionFaults ms (positionAt ps i) .missing) _ (position-clear i h))
 
 -- what the test for anything wrong says, where it says no
 pub neither : {b a : Bool} {o : Found} → a ≡ isSome o → (b || a) ≡ false → (b ≡ false) × (o ≡ Nothing)
@@ -137,20 +136,21 @@ neither {b} {a} {o} e p = (or-left b a p, found-nothing o (sym e ∙ or-right b 
 -- ---- lists that stand in no file
 
 module _ (c : Check) (cs : Checks) where
-  pub too-many : c .test 0 ≡ true → Met (c .number) 0 ≡ decisionOf (wholly c before cs)
-  too-many p = sym (decision-before (wholly c) cs ∙ rw (decision-wholly c, p))
+  pub too-many : c .test 0 ≡ true → Met (c .number) 0 ≡ decisionOf (only c before cs)
+  too-many p = sym (decision-before (only c) cs ∙ rw (decision-only c, p))
 
-  pub not-many : c .test 0 ≡ false → {d : Decision} → d ≡ decisionOf cs → d ≡ decisionOf (wholly c before cs)
-  not-many p e = e ∙ sym (decision-before (wholly c) cs ∙ rw (decision-wholly c, p))
+  pub not-many : c .test 0 ≡ false → {d : Decision} → d ≡ decisionOf cs → d ≡ decisionOf (only c before cs)
+  not-many p e = e ∙ sym (decision-before (only c) cs ∙ rw (decision-only c, p))
 
-module _ (ms : List Mark) (cs : List Correction) where
-  corrected-by : {d e : Decision} {n m : ℕ} → d ≡ e → n ≡ m → _≡_ {A = Corrected} (record { decision = d; resent = n }) (record { decision = e; resent = m })
-  corrected-by p q = cc
+module _ (l : Limits) (ms : List Mark) (cs : List Correction) where
+  judged-by : {d e : Decision} {n m : ℕ} → d ≡ e → n ≡ m → _≡_ {A = CorrectionsJudged} (record { decision = d; resent = n }) (record { decision = e; resent = m })
+  judged-by p q = cc
 
-  pub too-many-corrections : manyCorrections ms cs .test 0 ≡ true → _≡_ {A = Corrected} (record { decision = Met 2 0; resent = 0 }) (correctedOf ms cs)
-  unfolding correctedOf
-  too-many-corrections p = corrected-by (too-many (manyCorrections ms cs) (correctionChecks ms cs) p) (rw p)
+  pub too-many-corrections : tooManyCorrections l ms cs .test 0 ≡ true → _≡_ {A = CorrectionsJudged} (record { decision = Met 2 0; resent = 0 }) (correctionsJudged l ms cs)
+  unfolding correctionsJudged
+  too-many-corrections p = judged-by (too-many (tooManyCorrections l ms cs) (correctionChecks ms cs) p) (rw p)
 
-  pub not-many-corrections : manyCorrections ms cs .test 0 ≡ false → {r : Corrected} → r .decision ≡ decisionOf (correctionChecks ms cs) → r .resent ≡ resentOf cs → r ≡ correctedOf ms cs
-  unfolding correctedOf
-  not-many-corrections p d e = corrected-by (not-many (manyCorrections ms cs) (correctionChecks ms cs) p d) (rw p e)
+  pub not-many-corrections : tooManyCorrections l ms cs .test 0 ≡ false → {r : CorrectionsJudged} → r .decision ≡ decisionOf (correctionChecks ms cs) → r .resent ≡ resentOf cs
+      → r ≡ correctionsJudged l ms cs
+  unfolding correctionsJudged
+  not-many-corrections p d e = judged-by (not-many (tooManyCorrections l ms cs) (correctionChecks ms cs) p d) (rw p e)

@@ -2,7 +2,7 @@
 use mathlib.Core.Path.{_≡_, refl, sym, ap, _∙_}
 use mathlib.Core.List.{List}
 use Prim.Native.Nat.{ℕ}
-use Rattle.numbers.specs.Order.{andThen}
+use Rattle.numbers.specs.Order.{orLater}
 use Rattle.numbers.specs.Checks.{_before_, decisionOf}
 use Rattle.numbers.specs.declared.deciding.Decision.{Decision}
 use Rattle.numbers.specs.declared.deciding.Decision.the-variants.{Met, Unmet}
@@ -27,12 +27,12 @@ use Rattle.checks.specs.declared.judging.Judged.the-variants.{Refused}
 -- ---- three sections
 
 pub records-decided : (ls : Lists) {a b c d e : Decision} → a ≡ decisionOf (markChecks (ls .marks)) → b ≡ decisionOf (correctionChecks (ls .marks) (ls .corrections))
-    → c ≡ decisionOf (positionChecks (ls .marks) (ls .positions)) → d ≡ andThen b c → e ≡ andThen a d → e ≡ decisionOf (recordChecks ls)
+    → c ≡ decisionOf (positionChecks (ls .marks) (ls .positions)) → d ≡ orLater b c → e ≡ orLater a d → e ≡ decisionOf (recordChecks ls)
 records-decided ls p q r s t =
     let m = markChecks (ls .marks) in
     let k = correctionChecks (ls .marks) (ls .corrections) in
     let n = positionChecks (ls .marks) (ls .positions) in
-    t ∙ rw (p, s, q, r) (sym (decision-before m (k before n) ∙ ap (andThen (decisionOf m)) (decision-before k n)))
+    t ∙ rw (p, s, q, r) (sym (decision-before m (k before n) ∙ ap (orLater (decisionOf m)) (decision-before k n)))
 
 pub judged-by : (d : DayFile) (n : ℕ) {x y z : Decision} {r : Judged} → x ≡ z → x ≡ y → r ≡ judgedBy d n y → r ≡ judgedBy d n z
 judged-by d n e f g = rw (← e, f) g

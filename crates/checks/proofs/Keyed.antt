@@ -24,7 +24,7 @@ use Rattle.dayfile.specs.declared.records.Mark.{Mark}
 use Rattle.dayfile.specs.declared.records.Correction.{Correction}
 use Rattle.checks.specs.Marks.{contractPair}
 use Rattle.checks.specs.Corrections.{numberPair}
-use Rattle.checks.specs.Looks.{Lasts}
+use Rattle.checks.specs.Faults.{Lasts}
 
 -- ---- marks
 

@@ -10,7 +10,7 @@ use borrow.Author.Tests.{eqb-true, eqb-false, ltb-true, ltb-false}
 use Rattle.numbers.specs.Folds.{repeating, first, last}
 use Rattle.dayfile.specs.Records.{correctionAt}
 use Rattle.checks.specs.Corrections.{sameNumber, numberPair, clashing, clashPair}
-use Rattle.checks.specs.Looks.{clashesBelow, Lasts}
+use Rattle.checks.specs.Faults.{clashesBelow, Lasts}
 use Rattle.dayfile.specs.declared.records.Correction.{Correction}
 use Rattle.numbers.specs.declared.Found.the-variants.{Nothing}
 use Rattle.numbers.proofs.Searches.{first-clear, some-at, some-clear, clear-some}

@@ -2,7 +2,7 @@ pub mod Refusals
 pub mod Agreement
 pub mod Passed
 mod Deciding
-mod Looking
+mod Faults
 mod LastNumbers
 mod Keyed
 mod RawLots

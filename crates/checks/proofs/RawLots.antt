@@ -18,8 +18,8 @@ use Rattle.dayfile.specs.declared.records.RawPosition.{RawPosition}
 use Rattle.dayfile.specs.declared.records.Position.{Position}
 use Rattle.dayfile.specs.declared.records.Mark.{Mark}
 use Rattle.checks.specs.Positions.{badLots}
-use Rattle.checks.specs.Looks.{rawLook, positionLook}
-use Rattle.checks.specs.declared.positions.PositionLook.{PositionLook}
+use Rattle.checks.specs.Faults.{rawFaults, positionFaults}
+use Rattle.checks.specs.declared.positions.PositionFaults.{PositionFaults}
 
 -- a number moved up by the limit is the limit itself, or above twice the limit
 abbrev offMoved : ℕ → Bool
@@ -61,8 +61,8 @@ moved-lots u h = go (ltb u 2_147_483_648) refl
         rw (q, lt-ltb u 4_294_967_296 h) (below (4_294_967_296 - suc u) ((u + 1_000_000) % 4_294_967_296) (omega arith) (omega arith))
 
 -- a position is looked at by its bytes
-pub raw-looked : (ms : List Mark) (s : List ℕ) (i : ℕ) {n : ℕ} {w : RawPosition} {r : PositionLook} → n ≡ length ms → w ≡ rawPositionAt (rawPositionsIn s) i → w .lots < 4_294_967_296
-    → r ≡ rawLook n w → r ≡ positionLook ms (positionAt (positionsIn s) i)
-raw-looked ms s i {n} {w} e f h q =
+pub raw-faults : (ms : List Mark) (s : List ℕ) (i : ℕ) {n : ℕ} {w : RawPosition} {r : PositionFaults} → n ≡ length ms → w ≡ rawPositionAt (rawPositionsIn s) i → w .lots < 4_294_967_296
+    → r ≡ rawFaults n w → r ≡ positionFaults ms (positionAt (positionsIn s) i)
+raw-faults ms s i {n} {w} e f h q =
     let p = ap signedPosition f ∙ as-signed-position s i in
-    q ∙ rw (e, moved-lots (w .lots) h) (ap (positionLook ms) p)
+    q ∙ rw (e, moved-lots (w .lots) h) (ap (positionFaults ms) p)

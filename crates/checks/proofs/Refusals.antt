@@ -1,32 +1,36 @@
 -- What the checks answer is what their conditions in words say, in both directions and with the index: a file or a list is refused with k at i
 -- exactly where the condition of check k is the first that holds, at i first, and passes exactly where none holds.
-use mathlib.Core.Path.{_≡_, refl, ap}
-use mathlib.Core.List.{List}
+use mathlib.Core.Path.{_≡_, refl, sym, ap, _∙_}
+use mathlib.Core.List.{List, [], _∷_, map}
 use mathlib.Core.Logic.{_↔_}
-use Prim.Native.Nat.{ℕ, _<_}
+use Prim.Native.Nat.{ℕ, _≤_, _<_}
 use native.Mathlib.Omega.{arith}
 use lib.ListN.{length}
+use borrow.Author.Tests.{le-ltb}
+use Rattle.numbers.specs.Order.{orLater}
 use Rattle.numbers.specs.Bytes.{u32At}
-use Rattle.numbers.specs.Checks.{Refuses, Passes, decisionOf}
+use Rattle.numbers.specs.Checks.{_before_, numberOf, Refuses, Passes, decisionOf}
 use Rattle.numbers.specs.declared.deciding.Decision.{Decision}
 use Rattle.numbers.specs.declared.deciding.Decision.the-variants.{Met, Unmet}
-use Rattle.numbers.proofs.Checks.{refuses-exactly, passes-exactly}
+use Rattle.numbers.proofs.Checks.{refuses-exactly, passes-exactly, decision-before}
 use Rattle.dayfile.specs.Limits.{Limits}
 use Rattle.dayfile.specs.Layout.{countsOf, listsOfFile}
-use Rattle.dayfile.specs.Opening.{openedOf}
+use Rattle.dayfile.specs.Opening.{headerChecks, openedOf}
 use Rattle.dayfile.specs.declared.file.Opened.the-variants.{File}
 use Rattle.dayfile.proofs.Opening.{opens}
 use Rattle.dayfile.proofs.Parts.{header-counts}
+use Rattle.dayfile.proofs.Refusals.{opened-decides}
 use Rattle.dayfile.specs.declared.records.Mark.{Mark}
 use Rattle.dayfile.specs.declared.records.Correction.{Correction}
 use Rattle.dayfile.specs.declared.records.Position.{Position}
 use Rattle.dayfile.specs.declared.file.DayFile.{DayFile}
-use Rattle.checks.specs.Marks.{MarkCheck, markCheck, marksAlone}
-use Rattle.checks.specs.Corrections.{CorrectionCheck, correctionCheck, correctionsAlone, correctedOf, resentOf}
-use Rattle.checks.specs.Positions.{PositionCheck, positionCheck, positionsAlone}
+use Rattle.checks.specs.Marks.{MarkCheck, markCheck, markChecks, tooManyMarks, markListChecks}
+use Rattle.checks.specs.Corrections.{CorrectionCheck, correctionCheck, correctionChecks, correctionListChecks, correctionsJudged, resentOf}
+use Rattle.checks.specs.Positions.{PositionCheck, positionCheck, positionChecks, tooManyPositions, positionListChecks}
 use Rattle.checks.specs.Judging.{recordChecks, fileChecks, judgedBy, judgedOf}
 use Rattle.checks.specs.declared.judging.Judged.the-variants.{Sound, Refused}
-use Rattle.checks.proofs.Agreement.{marks-agree, corrections-agree, positions-agree, marks-alone-agree, corrections-alone-agree, positions-alone-agree, file-agrees}
+use Rattle.checks.proofs.Agreement.{marks-agree, corrections-agree, positions-agree, mark-lists-agree, correction-lists-agree, position-lists-agree, file-agrees}
+use Rattle.checks.proofs.Deciding.{not-many, not-many-corrections}
 use Rattle.checks.proofs.Passed.{passed-parts, mark-passes, correction-passes, position-passes}
 
 -- ---- a file, by `judge`
@@ -77,22 +81,64 @@ module _ (l : Limits) (f : List ℕ) where
 
 -- ---- lists that stand in no file, by `check_marks`, `check_corrections` and `check_positions`
 
-pub marks-refused : (ms : List Mark) {k i : ℕ} → (decisionOf (marksAlone ms) ≡ Met k i) ↔ Refuses (marksAlone ms) k i
-marks-refused ms = refuses-exactly (marksAlone ms) (marks-alone-agree ms)
+module _ (l : Limits) (ms : List Mark) where
+  pub marks-refused : {k i : ℕ} → (decisionOf (markListChecks l ms) ≡ Met k i) ↔ Refuses (markListChecks l ms) k i
+  marks-refused = refuses-exactly (markListChecks l ms) (mark-lists-agree l ms)
 
-pub marks-passed : (ms : List Mark) → (decisionOf (marksAlone ms) ≡ Unmet) ↔ Passes (marksAlone ms)
-marks-passed ms = passes-exactly (marksAlone ms) (marks-alone-agree ms)
+  pub marks-passed : (decisionOf (markListChecks l ms) ≡ Unmet) ↔ Passes (markListChecks l ms)
+  marks-passed = passes-exactly (markListChecks l ms) (mark-lists-agree l ms)
 
-pub corrections-refused : (ms : List Mark) (cs : List Correction) {k i : ℕ} → (correctedOf ms cs .decision ≡ Met k i) ↔ Refuses (correctionsAlone ms cs) k i
-unfolding correctedOf
-corrections-refused ms cs = refuses-exactly (correctionsAlone ms cs) (corrections-alone-agree ms cs)
+  -- a list within the limit is judged by 4 to 8
+  marks-within : length ms ≤ l .marks → decisionOf (markListChecks l ms) ≡ decisionOf (markChecks ms)
+  marks-within h = sym (not-many (tooManyMarks l ms) (markChecks ms) (le-ltb (l .marks) (length ms) h) refl)
 
-pub corrections-passed : (ms : List Mark) (cs : List Correction) → (correctedOf ms cs .decision ≡ Unmet) ↔ Passes (correctionsAlone ms cs)
-unfolding correctedOf
-corrections-passed ms cs = passes-exactly (correctionsAlone ms cs) (corrections-alone-agree ms cs)
+module _ (l : Limits) (ms : List Mark) (cs : List Correction) where
+  pub corrections-refused : {k i : ℕ} → (correctionsJudged l ms cs .decision ≡ Met k i) ↔ Refuses (correctionListChecks l ms cs) k i
+  unfolding correctionsJudged
+  corrections-refused = refuses-exactly (correctionListChecks l ms cs) (correction-lists-agree l ms cs)
 
-pub positions-refused : (ms : List Mark) (ps : List Position) {k i : ℕ} → (decisionOf (positionsAlone ms ps) ≡ Met k i) ↔ Refuses (positionsAlone ms ps) k i
-positions-refused ms ps = refuses-exactly (positionsAlone ms ps) (positions-alone-agree ms ps)
+  pub corrections-passed : (correctionsJudged l ms cs .decision ≡ Unmet) ↔ Passes (correctionListChecks l ms cs)
+  unfolding correctionsJudged
+  corrections-passed = passes-exactly (correctionListChecks l ms cs) (correction-lists-agree l ms cs)
 
-pub positions-passed : (ms : List Mark) (ps : List Position) → (decisionOf (positionsAlone ms ps) ≡ Unmet) ↔ Passes (positionsAlone ms ps)
-positions-passed ms ps = passes-exactly (positionsAlone ms ps) (positions-alone-agree ms ps)
+  corrections-within : length ms ≤ l .marks → length cs ≤ l .corrections → record { decision = decisionOf (correctionChecks ms cs); resent = resentOf cs } ≡ correctionsJudged l ms cs
+  corrections-within h k = not-many-corrections l ms cs (rw (le-ltb (l .marks) (length ms) h, le-ltb (l .corrections) (length cs) k)) refl refl
+
+module _ (l : Limits) (ms : List Mark) (ps : List Position) where
+  pub positions-refused : {k i : ℕ} → (decisionOf (positionListChecks l ms ps) ≡ Met k i) ↔ Refuses (positionListChecks l ms ps) k i
+  positions-refused = refuses-exactly (positionListChecks l ms ps) (position-lists-agree l ms ps)
+
+  pub positions-passed : (decisionOf (positionListChecks l ms ps) ≡ Unmet) ↔ Passes (positionListChecks l ms ps)
+  positions-passed = passes-exactly (positionListChecks l ms ps) (position-lists-agree l ms ps)
+
+  positions-within : length ms ≤ l .marks → length ps ≤ l .positions → decisionOf (positionListChecks l ms ps) ≡ decisionOf (positionChecks ms ps)
+  positions-within h k =
+      sym (not-many (tooManyPositions l ms ps) (positionChecks ms ps) (rw (le-ltb (l .marks) (length ms) h, le-ltb (l .positions) (length ps) k)) refl)
+
+-- their numbers, in their order
+pub list-numbers : (l : Limits) (ms : List Mark) (cs : List Correction) (ps : List Position)
+    → (map (numberOf (markListChecks l ms)) (markListChecks l ms .order) ≡ 2 ∷ 4 ∷ 5 ∷ 6 ∷ 7 ∷ 8 ∷ [])
+    × (map (numberOf (correctionListChecks l ms cs)) (correctionListChecks l ms cs .order) ≡ 2 ∷ 9 ∷ 10 ∷ 11 ∷ [])
+    × (map (numberOf (positionListChecks l ms ps)) (positionListChecks l ms ps .order) ≡ 2 ∷ 12 ∷ 13 ∷ [])
+list-numbers l ms cs ps = (refl, refl, refl)
+
+-- Of the lists of a file that opens, the three calls together say what `judge` says of the file.
+pub judged-by-lists : (l : Limits) (f : List ℕ) → openedOf l f ≡ File (countsOf f)
+    → let ls = listsOfFile f in
+    let cs = correctionsJudged l (ls .marks) (ls .corrections) in
+    judgedOf l f ≡ judgedBy (countsOf f) (cs .resent) (orLater (decisionOf (markListChecks l (ls .marks))) (orLater (cs .decision) (decisionOf (positionListChecks l (ls .marks) (ls .positions)))))
+unfolding judgedOf
+judged-by-lists l f o =
+    let ls = listsOfFile f in
+    let m = markChecks (ls .marks) in
+    let c = correctionChecks (ls .marks) (ls .corrections) in
+    let p = positionChecks (ls .marks) (ls .positions) in
+    let h = opens l f o .0 in
+    let n = header-counts f (h .ends-at) in
+    let few-marks : length (ls .marks) ≤ l .marks = rw (n .0) (h .marks-fit) in
+    let few-corrections : length (ls .corrections) ≤ l .corrections = rw (n .1) (h .corrections-fit) in
+    let few-positions : length (ls .positions) ≤ l .positions = rw (n .2) (h .positions-fit) in
+    let decided : decisionOf (fileChecks l f) ≡ orLater (decisionOf m) (orLater (decisionOf c) (decisionOf p)) =
+    decision-before (headerChecks l f) (recordChecks ls) ∙ rw (opened-decides l f o .0) (decision-before m (c before p) ∙ ap (orLater (decisionOf m)) (decision-before c p)) in
+    ap (judgedBy (countsOf f) (resentOf (ls .corrections))) decided
+    ∙ rw (← corrections-within l (ls .marks) (ls .corrections) few-marks few-corrections, marks-within l (ls .marks) few-marks, positions-within l (ls .marks) (ls .positions) few-marks few-positions)

@@ -4,18 +4,18 @@ use mathlib.Core.Bool.{Bool, cond, not, _||_, _&&_}
 use mathlib.Core.List.{List, [], _∷_}
 use mathlib.Core.Logic.{_⊎_, _≢_}
 use Prim.Native.Nat.{ℕ, _≤_, _<_}
-use lib.Dec.{leb, ltb, eqb}
+use lib.Dec.{ltb, eqb}
 use lib.ListN.{length}
 use Rattle.numbers.specs.Folds.{repeating, count}
-use Rattle.numbers.specs.Checks.{Check, Checks, wholly, _before_, decisionOf}
+use Rattle.numbers.specs.Checks.{Check, Checks, only, _before_, decisionOf}
 use Rattle.products.specs.Products.{priceLimit}
-use Rattle.dayfile.specs.Limits.{fileLimits}
+use Rattle.dayfile.specs.Limits.{Limits}
 use Rattle.dayfile.specs.Records.{markAt, correctionAt}
 use Rattle.dayfile.specs.declared.records.Mark.{Mark}
 use Rattle.dayfile.specs.declared.records.Correction.{Correction}
 use Rattle.checks.specs.Table.{aboveLimit}
-use Rattle.checks.specs.Marks.{OffTick, offTick}
-use Rattle.checks.specs.declared.corrections.Corrected.{Corrected}
+use Rattle.checks.specs.Marks.{OffTick, offTick, noMark}
+use Rattle.checks.specs.declared.corrections.CorrectionsJudged.{CorrectionsJudged}
 
 -- ---- the words, and the test for each
 
@@ -60,7 +60,7 @@ module _ (ms : List Mark) (cs : List Correction) where
       record {
         number = 9;
         Wrong = λ i. length ms ≤ correctionAt cs i .mark;
-        test = λ i. leb (length ms) (correctionAt cs i .mark);
+        test = λ i. noMark ms (correctionAt cs i .mark);
       }
   -- 10: a correction's price breaks 6 or 7 for its mark
   correctionCheck CorrectionPrice =
@@ -86,22 +86,19 @@ module _ (ms : List Mark) (cs : List Correction) where
         order = CorrectionMark ∷ CorrectionPrice ∷ CorrectionClash ∷ [];
       }
 
-  -- the same of lists that stand in no file: 2 where one has more records than a file may have, before the others
-  abbrev pub manyCorrections : Check
-  manyCorrections =
+-- the same of a list that stands in no file: 2 where a file may not have as many marks or corrections, before the others
+module _ (l : Limits) (ms : List Mark) (cs : List Correction) where
+  abbrev pub tooManyCorrections : Check
+  tooManyCorrections =
       record {
         number = 2;
-        Wrong = λ i. (fileLimits .marks < length ms) ⊎ (fileLimits .corrections < length cs);
-        test = λ i. ltb (fileLimits .marks) (length ms) || ltb (fileLimits .corrections) (length cs);
+        Wrong = λ i. (l .marks < length ms) ⊎ (l .corrections < length cs);
+        test = λ i. ltb (l .marks) (length ms) || ltb (l .corrections) (length cs);
       }
 
-  abbrev pub correctionsAlone : Checks
-  correctionsAlone = wholly manyCorrections before correctionChecks
+  abbrev pub correctionListChecks : Checks
+  correctionListChecks = only tooManyCorrections before correctionChecks ms cs
 
-  -- their answer, with the resent count, which is 0 where there are too many
-  unfoldable pub correctedOf : Corrected
-  correctedOf =
-      record {
-        decision = decisionOf correctionsAlone;
-        resent = cond (ltb (fileLimits .marks) (length ms) || ltb (fileLimits .corrections) (length cs)) 0 (resentOf cs);
-      }
+  -- what they decide, with the resent count, which is 0 where there are too many
+  unfoldable pub correctionsJudged : CorrectionsJudged
+  correctionsJudged = record { decision = decisionOf correctionListChecks; resent = cond (tooManyCorrections .test 0) 0 (resentOf cs) }

@@ -3,4 +3,4 @@ pub mod Marks
 pub mod Corrections
 pub mod Positions
 pub mod Judging
-pub mod Looks
+pub mod Faults

@@ -4,15 +4,15 @@ use mathlib.Core.Bool.{Bool, not, _||_, _&&_}
 use mathlib.Core.List.{List, [], _∷_, List·Memᴰ}
 use mathlib.Core.Logic.{_⊎_}
 use Prim.Native.Nat.{ℕ, _%_, _<_, _∣_}
-use lib.Dec.{ltb, eqb}
+use lib.Dec.{leb, ltb, eqb}
 use lib.ListN.{length}
 use Rattle.numbers.specs.Folds.{repeating}
-use Rattle.numbers.specs.Checks.{Check, Checks, wholly, _before_}
+use Rattle.numbers.specs.Checks.{Check, Checks, only, _before_}
 use Rattle.products.specs.Products.{priceLimit, find, monthsOf, Unlisted}
 use Rattle.products.specs.declared.table.Code.{Code}
 use Rattle.products.specs.declared.table.Product.{Product}
 use Rattle.products.specs.declared.table.Found.the-variants.{At}
-use Rattle.dayfile.specs.Limits.{fileLimits, yearLimit}
+use Rattle.dayfile.specs.Limits.{Limits, yearLimit}
 use Rattle.dayfile.specs.Records.{markAt}
 use Rattle.dayfile.specs.declared.records.Mark.{Mark}
 use Rattle.checks.specs.Table.{aboveLimit, listed, quoted, tickOf}
@@ -29,6 +29,10 @@ OffTick m p = (q : Product) × (find (m .code) ≡ At q) × ¬ (q .tick ∣ p)
 
 abbrev pub offTick : Mark → ℕ → Bool
 offTick m p = not (eqb (p % tickOf (m .code)) 0)
+
+-- there is no mark with this index
+abbrev pub noMark : List Mark → ℕ → Bool
+noMark ms k = leb (length ms) k
 
 -- two marks agree in code, month and year
 abbrev pub SameContract : Mark → Mark → Type 0
@@ -104,9 +108,10 @@ module _ (ms : List Mark) where
         order = MarkCode ∷ MarkDate ∷ MarkLimit ∷ MarkTick ∷ MarkRepeated ∷ [];
       }
 
-  -- the same of marks that stand in no file: 2 where there are more than a file may have, before the others
-  abbrev pub manyMarks : Check
-  manyMarks = record { number = 2; Wrong = λ i. fileLimits .marks < length ms; test = λ i. ltb (fileLimits .marks) (length ms) }
+-- the same of a list that stands in no file: 2 where a file may not have as many marks, before the others
+module _ (l : Limits) (ms : List Mark) where
+  abbrev pub tooManyMarks : Check
+  tooManyMarks = record { number = 2; Wrong = λ i. l .marks < length ms; test = λ i. ltb (l .marks) (length ms) }
 
-  abbrev pub marksAlone : Checks
-  marksAlone = wholly manyMarks before markChecks
+  abbrev pub markListChecks : Checks
+  markListChecks = only tooManyMarks before markChecks ms

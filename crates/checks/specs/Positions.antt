@@ -4,16 +4,17 @@ use mathlib.Core.Bool.{Bool, _||_}
 use mathlib.Core.List.{List, [], _∷_}
 use mathlib.Core.Logic.{_⊎_}
 use Prim.Native.Nat.{ℕ, _≤_, _<_}
-use lib.Dec.{leb, ltb}
+use lib.Dec.{ltb}
 use lib.IntN.{ℤ, pos, negℤ}
 use lib.ListN.{length}
 use lib.Signed.{ltZ, _<ℤ_}
 use Rattle.numbers.specs.Integers.{isZero}
-use Rattle.numbers.specs.Checks.{Check, Checks, wholly, _before_}
-use Rattle.dayfile.specs.Limits.{fileLimits, lotsLimit}
+use Rattle.numbers.specs.Checks.{Check, Checks, only, _before_}
+use Rattle.dayfile.specs.Limits.{Limits, lotsLimit}
 use Rattle.dayfile.specs.Records.{positionAt}
 use Rattle.dayfile.specs.declared.records.Mark.{Mark}
 use Rattle.dayfile.specs.declared.records.Position.{Position}
+use Rattle.checks.specs.Marks.{noMark}
 
 -- the test of a position's lots
 abbrev pub badLots : ℤ → Bool
@@ -32,7 +33,7 @@ module _ (ms : List Mark) (ps : List Position) where
       record {
         number = 12;
         Wrong = λ i. length ms ≤ positionAt ps i .mark;
-        test = λ i. leb (length ms) (positionAt ps i .mark);
+        test = λ i. noMark ms (positionAt ps i .mark);
       }
   -- 13: a position's lots are 0, below −1,000,000 or above 1,000,000
   positionCheck PositionLots =
@@ -46,14 +47,15 @@ module _ (ms : List Mark) (ps : List Position) where
   positionChecks =
       record { Name = PositionCheck; check = positionCheck; size = λ c. length ps; order = PositionMark ∷ PositionLots ∷ [] }
 
-  -- the same of lists that stand in no file: 2 where one has more records than a file may have, before the others
-  abbrev pub manyPositions : Check
-  manyPositions =
+-- the same of a list that stands in no file: 2 where a file may not have as many marks or positions, before the others
+module _ (l : Limits) (ms : List Mark) (ps : List Position) where
+  abbrev pub tooManyPositions : Check
+  tooManyPositions =
       record {
         number = 2;
-        Wrong = λ i. (fileLimits .marks < length ms) ⊎ (fileLimits .positions < length ps);
-        test = λ i. ltb (fileLimits .marks) (length ms) || ltb (fileLimits .positions) (length ps);
+        Wrong = λ i. (l .marks < length ms) ⊎ (l .positions < length ps);
+        test = λ i. ltb (l .marks) (length ms) || ltb (l .positions) (length ps);
       }
 
-  abbrev pub positionsAlone : Checks
-  positionsAlone = wholly manyPositions before positionChecks
+  abbrev pub positionListChecks : Checks
+  positionListChecks = only tooManyPositions before positionChecks ms ps

@@ -12,7 +12,7 @@ ghost use lib.ListN.{length};
 ghost use Rattle.numbers.specs.Folds.{repeating, first};
 ghost use Rattle.dayfile.specs.Records.{correctionsIn};
 ghost use Rattle.checks.specs.Corrections.{clashing, clashPair, resentOf};
-ghost use Rattle.checks.specs.Looks.{clashesBelow, Lasts, bit};
+ghost use Rattle.checks.specs.Faults.{clashesBelow, Lasts, bit};
 
 // 11: two corrections agree in number but differ in mark or price.
 fn clash(b: Correction, c: Correction) -> bool
@@ -51,7 +51,7 @@ pub(crate) fn first_clash(corrections: &[u8], numbers: &[u16; DayFile::MAX_CORRE
 }
 
 // Whether k, one more than the index of an earlier record or 0, names a record.
-fn is_one(k: u16) -> bool
+fn is_some(k: u16) -> bool
     ensures { λ r. ⌜ r ≡ not (eqb k 0) ⌝ }
 {
     k != 0
@@ -73,7 +73,7 @@ pub(crate) fn resent_count(corrections: &[u8], numbers: &[u16; DayFile::MAX_CORR
     let mut t = 0;
     let mut i = 0;
     while i < n {
-        t += one_if(is_one(numbers[i]));
+        t += one_if(is_some(numbers[i]));
         i += 1;
     }
     t

@@ -3,7 +3,6 @@
 use crate::clashes::first_clash;
 use crate::clashes::resent_count;
 use crate::marks::above_limit;
-use crate::marks::decide_marks;
 use dayfile::Correction;
 use dayfile::DayFile;
 use dayfile::correction_at;
@@ -21,51 +20,51 @@ ghost use Rattle.numbers.specs.Folds.{some};
 ghost use Rattle.numbers.specs.Checks.{decisionOf};
 ghost use Rattle.dayfile.specs.Limits.{fileLimits};
 ghost use Rattle.dayfile.specs.Records.{marksIn, correctionsIn, correctionAt};
-ghost use Rattle.checks.specs.Corrections.{correctionChecks, correctedOf, resentOf};
-ghost use Rattle.checks.specs.Looks.{correctionLook, anyCorrection, correctionFindings, WithCorrection, correctionDecision, Ticks};
+ghost use Rattle.checks.specs.Corrections.{correctionChecks, correctionsJudged, resentOf};
+ghost use Rattle.checks.specs.Faults.{correctionFaults, anyCorrectionFault, correctionFindings, WithCorrection, correctionDecision, Ticks};
 
 // What is wrong with a correction by itself.
-pub struct CorrectionLook {
+pub struct CorrectionFaults {
     // 9: it names no mark
-    pub unnamed: bool,
+    pub missing: bool,
     // 10: its price breaks 6 or 7 for its mark
     pub price: bool,
 }
 
-// Looks at a correction, given how many marks there are, and their ticks.
-fn look(marks: &[u8], ticks: &[u32; DayFile::MAX_MARKS], c: Correction) -> CorrectionLook
+// The faults of a correction, given the marks and their ticks.
+fn faults(marks: &[u8], ticks: &[u32; DayFile::MAX_MARKS], c: Correction) -> CorrectionFaults
     requires { ⌜ Ticks (marksIn (now marks)) (now ticks) ⌝ }
-    ensures { λ r. ⌜ r ≡ correctionLook (marksIn (now (marks .entry))) c ⌝ }
+    ensures { λ r. ⌜ r ≡ correctionFaults (marksIn (now (marks .entry))) c ⌝ }
 {
     let m = c.mark;
     if mark_count(marks) <= m {
-        return CorrectionLook {
-            unnamed: true,
+        return CorrectionFaults {
+            missing: true,
             price: above_limit(c.price),
         };
     }
-    CorrectionLook {
-        unnamed: false,
+    CorrectionFaults {
+        missing: false,
         price: above_limit(c.price) | off_tick(c.price, ticks[m]),
     }
 }
 
-fn any(l: CorrectionLook) -> bool
-    ensures { λ r. ⌜ r ≡ anyCorrection l ⌝ }
+fn any_fault(l: CorrectionFaults) -> bool
+    ensures { λ r. ⌜ r ≡ anyCorrectionFault l ⌝ }
 {
-    l.unnamed | l.price
+    l.missing | l.price
 }
 
 // Whether anything is wrong with some correction by itself.
-fn look_at_all(marks: &[u8], ticks: &[u32; DayFile::MAX_MARKS], corrections: &[u8]) -> bool
+fn some_fault(marks: &[u8], ticks: &[u32; DayFile::MAX_MARKS], corrections: &[u8]) -> bool
     requires { ⌜ Ticks (marksIn (now marks)) (now ticks) ⌝ }
-    ensures { λ r. ⌜ r ≡ some (λ i. anyCorrection (correctionLook (marksIn (now (marks .entry))) (correctionAt (correctionsIn (now (corrections .entry))) i))) (length (correctionsIn (now (corrections .entry)))) ⌝ }
+    ensures { λ r. ⌜ r ≡ some (λ i. anyCorrectionFault (correctionFaults (marksIn (now (marks .entry))) (correctionAt (correctionsIn (now (corrections .entry))) i))) (length (correctionsIn (now (corrections .entry)))) ⌝ }
 {
     let n = correction_count(corrections);
     let mut bad = false;
     let mut i = 0;
     while i < n {
-        bad = bad | any(look(marks, ticks, correction_at(corrections, i)));
+        bad = bad | any_fault(faults(marks, ticks, correction_at(corrections, i)));
         i += 1;
     }
     bad
@@ -73,18 +72,18 @@ fn look_at_all(marks: &[u8], ticks: &[u32; DayFile::MAX_MARKS], corrections: &[u
 
 // The first correction with each fault.
 pub struct CorrectionFindings {
-    pub unnamed: Found,
+    pub missing: Found,
     pub price: Found,
 }
 
 // One correction more.
-fn with_correction(f: CorrectionFindings, l: CorrectionLook, i: usize) -> CorrectionFindings
+fn with_correction(f: CorrectionFindings, l: CorrectionFaults, i: usize) -> CorrectionFindings
     ensures { λ r. ⌜ WithCorrection f l i r ⌝ }
 {
-    let unnamed = f.unnamed;
+    let missing = f.missing;
     let price = f.price;
     CorrectionFindings {
-        unnamed: unnamed.or_at(l.unnamed, i),
+        missing: missing.or_at(l.missing, i),
         price: price.or_at(l.price, i),
     }
 }
@@ -99,12 +98,12 @@ fn find_first(
 {
     let n = correction_count(corrections);
     let mut f = CorrectionFindings {
-        unnamed: Found::Nothing,
+        missing: Found::Nothing,
         price: Found::Nothing,
     };
     let mut i = 0;
     while i < n {
-        f = with_correction(f, look(marks, ticks, correction_at(corrections, i)), i);
+        f = with_correction(f, faults(marks, ticks, correction_at(corrections, i)), i);
         i += 1;
     }
     f
@@ -114,16 +113,16 @@ fn find_first(
 fn decide(f: CorrectionFindings, clash: Found) -> Decision
     ensures { λ r. ⌜ r ≡ correctionDecision f clash ⌝ }
 {
-    let unnamed = f.unnamed;
+    let missing = f.missing;
     let price = f.price;
     let d = Decision::Unmet;
-    let d = d.or(9, unnamed);
-    let d = d.or(10, price);
-    d.or(11, clash)
+    let d = d.or_found(9, missing);
+    let d = d.or_found(10, price);
+    d.or_found(11, clash)
 }
 
 // What the checks over corrections decide, and how many corrections bear a number that an earlier one bears.
-pub struct Corrected {
+pub struct CorrectionsJudged {
     pub decision: Decision,
     pub resent: usize,
 }
@@ -133,22 +132,22 @@ pub(crate) fn decide_corrections(
     marks: &[u8],
     ticks: &[u32; DayFile::MAX_MARKS],
     corrections: &[u8],
-) -> Corrected
+) -> CorrectionsJudged
     requires { ⌜ Ticks (marksIn (now marks)) (now ticks) × (length (correctionsIn (now corrections)) ≤ fileLimits .corrections) ⌝ }
     ensures { λ r. ⌜ (r .decision ≡ decisionOf (correctionChecks (marksIn (now (marks .entry))) (correctionsIn (now (corrections .entry))))) × (r .resent ≡ resentOf (correctionsIn (now (corrections .entry)))) ⌝ }
 {
-    let bad = look_at_all(marks, ticks, corrections);
+    let bad = some_fault(marks, ticks, corrections);
     let mut numbers = [0u16; DayFile::MAX_CORRECTIONS];
     earlier(corrections, Correction::SIZE, Key::Four, &mut numbers);
     let clash = first_clash(corrections, &numbers);
     let resent = resent_count(corrections, &numbers);
     if bad | clash.is_some() {
-        return Corrected {
+        return CorrectionsJudged {
             decision: decide(find_first(marks, ticks, corrections), clash),
             resent,
         };
     }
-    Corrected {
+    CorrectionsJudged {
         decision: Decision::Unmet,
         resent,
     }
@@ -156,13 +155,13 @@ pub(crate) fn decide_corrections(
 
 // What the checks decide of a list of corrections, given the marks: 2 where a file may not have as many of either, then 9 to 11. The resent
 // count goes with them; it is 0 with a refusal 2.
-pub fn check_corrections(marks: &[u8], corrections: &[u8]) -> Corrected
-    ensures { λ r. ⌜ r ≡ correctedOf (marksIn (now (marks .entry))) (correctionsIn (now (corrections .entry))) ⌝ }
+pub fn check_corrections(marks: &[u8], corrections: &[u8]) -> CorrectionsJudged
+    ensures { λ r. ⌜ r ≡ correctionsJudged fileLimits (marksIn (now (marks .entry))) (correctionsIn (now (corrections .entry))) ⌝ }
 {
     if (mark_count(marks) > DayFile::MAX_MARKS)
         | (correction_count(corrections) > DayFile::MAX_CORRECTIONS)
     {
-        return Corrected {
+        return CorrectionsJudged {
             decision: Decision::Met {
                 number: 2,
                 index: 0,
@@ -171,6 +170,6 @@ pub fn check_corrections(marks: &[u8], corrections: &[u8]) -> Corrected
         };
     }
     let mut ticks = [0u32; DayFile::MAX_MARKS];
-    decide_marks(marks, &mut ticks);
+    crate::marks::some_fault(marks, &mut ticks);
     decide_corrections(marks, &ticks, corrections)
 }

@@ -31,7 +31,7 @@ fn judge_records(marks: &[u8], corrections: &[u8], positions: &[u8], counts: Day
     let of_corrections = decide_corrections(marks, &ticks, corrections);
     let of_positions = decide_positions(marks, positions);
     let decision = of_corrections.decision;
-    match of_marks.and_then(decision.and_then(of_positions)) {
+    match of_marks.or(decision.or(of_positions)) {
         Decision::Met { number, index } => Judged::Refused { number, index },
         Decision::Unmet => Judged::Sound {
             counts,

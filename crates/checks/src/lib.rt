@@ -5,7 +5,7 @@ mod judging;
 mod marks;
 mod positions;
 
-pub use corrections::Corrected;
+pub use corrections::CorrectionsJudged;
 pub use corrections::check_corrections;
 pub use judging::Judged;
 pub use judging::judge;

@@ -21,13 +21,13 @@ ghost use Rattle.numbers.specs.Checks.{decisionOf};
 ghost use Rattle.dayfile.specs.Limits.{fileLimits};
 ghost use Rattle.dayfile.specs.Records.{marksIn, markAt};
 ghost use Rattle.checks.specs.Table.{aboveLimit};
-ghost use Rattle.checks.specs.Marks.{markChecks, marksAlone};
-ghost use Rattle.checks.specs.Looks.{markLook, lookBy, anyMark, markFindings, WithMark, markDecision, Ticks};
+ghost use Rattle.checks.specs.Marks.{highMark, markChecks, markListChecks};
+ghost use Rattle.checks.specs.Faults.{markFaults, faultsBy, anyMarkFault, markFindings, WithMark, markDecision, Ticks};
 
 const YEAR_LIMIT: u8 = 99;
 
 // What is wrong with a mark by itself, and its product's tick, 1 where there is no product.
-pub struct MarkLook {
+pub struct MarkFaults {
     // 4: the code is not in the product table
     pub code: bool,
     // 5: the month is not one of the product's, or the year is above 99
@@ -46,51 +46,59 @@ pub(crate) fn above_limit(p: u32) -> bool
     p > PRICE_LIMIT
 }
 
-// A mark of a product.
-fn look_by(q: Product, m: Mark) -> MarkLook
-    ensures { λ r. ⌜ r ≡ lookBy q m ⌝ }
+// 6: a price is above the highest one.
+fn is_high(m: Mark) -> bool
+    ensures { λ r. ⌜ r ≡ highMark m ⌝ }
 {
-    MarkLook {
+    above_limit(m.previous) | above_limit(m.today)
+}
+
+// The faults of a mark of a product.
+fn faults_by(q: Product, m: Mark) -> MarkFaults
+    ensures { λ r. ⌜ r ≡ faultsBy q m ⌝ }
+{
+    MarkFaults {
         code: false,
         date: !has_month(q, m.month) | (m.year > YEAR_LIMIT),
-        high: above_limit(m.previous) | above_limit(m.today),
+        high: is_high(m),
         off: off_tick(m.previous, q.tick) | off_tick(m.today, q.tick),
         tick: q.tick,
     }
 }
 
-fn look(m: Mark) -> MarkLook
-    ensures { λ r. ⌜ r ≡ markLook m ⌝ }
+// The faults of any mark.
+fn faults(m: Mark) -> MarkFaults
+    ensures { λ r. ⌜ r ≡ markFaults m ⌝ }
 {
     match lookup(m.code) {
-        products::Found::At(q) => look_by(q, m),
-        products::Found::Missing => MarkLook {
+        products::Found::At(q) => faults_by(q, m),
+        products::Found::Missing => MarkFaults {
             code: true,
             date: true,
-            high: above_limit(m.previous) | above_limit(m.today),
+            high: is_high(m),
             off: false,
             tick: 1,
         },
     }
 }
 
-fn any(l: MarkLook) -> bool
-    ensures { λ r. ⌜ r ≡ anyMark l ⌝ }
+fn any_fault(l: MarkFaults) -> bool
+    ensures { λ r. ⌜ r ≡ anyMarkFault l ⌝ }
 {
     l.code | l.date | l.high | l.off
 }
 
 // Whether anything is wrong with some mark by itself. Writes the ticks of all marks.
-fn look_at_all(marks: &[u8], ticks: &mut [u32; DayFile::MAX_MARKS]) -> bool
+pub(crate) fn some_fault(marks: &[u8], ticks: &mut [u32; DayFile::MAX_MARKS]) -> bool
     requires { ⌜ (length (marksIn (now marks)) ≤ fileLimits .marks) × (length (now ticks) ≡ fileLimits .marks) ⌝ }
-    ensures { λ r. ⌜ (r ≡ some (λ i. anyMark (markLook (markAt (marksIn (now (marks .entry))) i))) (length (marksIn (now (marks .entry))))) × Ticks (marksIn (now (marks .entry))) (now (ticks .exit)) ⌝ }
+    ensures { λ r. ⌜ (r ≡ some (λ i. anyMarkFault (markFaults (markAt (marksIn (now (marks .entry))) i))) (length (marksIn (now (marks .entry))))) × Ticks (marksIn (now (marks .entry))) (now (ticks .exit)) ⌝ }
 {
     let n = mark_count(marks);
     let mut bad = false;
     let mut i = 0;
     while i < n {
-        let l = look(mark_at(marks, i));
-        bad = bad | any(l);
+        let l = faults(mark_at(marks, i));
+        bad = bad | any_fault(l);
         ticks[i] = l.tick;
         i += 1;
     }
@@ -106,7 +114,7 @@ pub struct MarkFindings {
 }
 
 // One mark more.
-fn with_mark(f: MarkFindings, l: MarkLook, i: usize) -> MarkFindings
+fn with_mark(f: MarkFindings, l: MarkFaults, i: usize) -> MarkFindings
     ensures { λ r. ⌜ WithMark f l i r ⌝ }
 {
     let code = f.code;
@@ -121,6 +129,7 @@ fn with_mark(f: MarkFindings, l: MarkLook, i: usize) -> MarkFindings
     }
 }
 
+// The first mark with each fault, by a search among all.
 fn find_first(marks: &[u8]) -> MarkFindings
     ensures { λ r. ⌜ r ≡ markFindings (marksIn (now (marks .entry))) (length (marksIn (now (marks .entry)))) ⌝ }
 {
@@ -133,7 +142,7 @@ fn find_first(marks: &[u8]) -> MarkFindings
     };
     let mut i = 0;
     while i < n {
-        f = with_mark(f, look(mark_at(marks, i)), i);
+        f = with_mark(f, faults(mark_at(marks, i)), i);
         i += 1;
     }
     f
@@ -148,11 +157,11 @@ fn decide(f: MarkFindings, repeated: Found) -> Decision
     let high = f.high;
     let off = f.off;
     let d = Decision::Unmet;
-    let d = d.or(4, code);
-    let d = d.or(5, date);
-    let d = d.or(6, high);
-    let d = d.or(7, off);
-    d.or(8, repeated)
+    let d = d.or_found(4, code);
+    let d = d.or_found(5, date);
+    let d = d.or_found(6, high);
+    let d = d.or_found(7, off);
+    d.or_found(8, repeated)
 }
 
 // What the checks over marks within the file's limit decide. Writes the ticks of all marks.
@@ -160,7 +169,7 @@ pub(crate) fn decide_marks(marks: &[u8], ticks: &mut [u32; DayFile::MAX_MARKS]) 
     requires { ⌜ (length (marksIn (now marks)) ≤ fileLimits .marks) × (length (now ticks) ≡ fileLimits .marks) ⌝ }
     ensures { λ r. ⌜ (r ≡ decisionOf (markChecks (marksIn (now (marks .entry))))) × Ticks (marksIn (now (marks .entry))) (now (ticks .exit)) ⌝ }
 {
-    let bad = look_at_all(marks, ticks);
+    let bad = some_fault(marks, ticks);
     let repeated = first_repeated(marks, Mark::SIZE, Key::Four);
     if bad | repeated.is_some() {
         return decide(find_first(marks), repeated);
@@ -170,7 +179,7 @@ pub(crate) fn decide_marks(marks: &[u8], ticks: &mut [u32; DayFile::MAX_MARKS]) 
 
 // What the checks decide of a list of marks: 2 where a file may not have as many, then 4 to 8.
 pub fn check_marks(marks: &[u8]) -> Decision
-    ensures { λ r. ⌜ r ≡ decisionOf (marksAlone (marksIn (now (marks .entry)))) ⌝ }
+    ensures { λ r. ⌜ r ≡ decisionOf (markListChecks fileLimits (marksIn (now (marks .entry)))) ⌝ }
 {
     if mark_count(marks) > DayFile::MAX_MARKS {
         return Decision::Met {

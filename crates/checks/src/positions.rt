@@ -14,36 +14,36 @@ ghost use Rattle.numbers.specs.Folds.{some};
 ghost use Rattle.numbers.specs.Checks.{decisionOf};
 ghost use Rattle.dayfile.specs.Limits.{fileLimits};
 ghost use Rattle.dayfile.specs.Records.{marksIn, positionsIn, positionAt};
-ghost use Rattle.checks.specs.Positions.{positionChecks, positionsAlone};
-ghost use Rattle.checks.specs.Looks.{rawLook, positionLook, anyPosition, positionFindings, WithPosition, positionDecision};
+ghost use Rattle.checks.specs.Positions.{positionChecks, positionListChecks};
+ghost use Rattle.checks.specs.Faults.{rawFaults, positionFaults, anyPositionFault, positionFindings, WithPosition, positionDecision};
 
 // The most lots that a position may have, bought or sold.
 const LOTS_LIMIT: u32 = 1_000_000;
 
 // What is wrong with a position by itself.
-pub struct PositionLook {
+pub struct PositionFaults {
     // 12: it names no mark
-    pub unnamed: bool,
+    pub missing: bool,
     // 13: its lots are 0, or more than a position may have
     pub lots: bool,
 }
 
-// Looks at a position as its bytes have it, given how many marks there are. The lots are moved up by the limit, so that those that pass are
+// The faults of a position as its bytes have it, given how many marks there are. The lots are moved up by the limit, so that those that pass are
 // the lowest numbers.
-fn look(n: u32, w: RawPosition) -> PositionLook
-    ensures { λ r. ⌜ r ≡ rawLook n w ⌝ }
+fn faults(n: u32, w: RawPosition) -> PositionFaults
+    ensures { λ r. ⌜ r ≡ rawFaults n w ⌝ }
 {
     let moved = std::num::wrapping_add_u32(w.lots, LOTS_LIMIT);
-    PositionLook {
-        unnamed: n <= w.mark,
+    PositionFaults {
+        missing: n <= w.mark,
         lots: (moved == LOTS_LIMIT) | (moved > 2 * LOTS_LIMIT),
     }
 }
 
-fn any(l: PositionLook) -> bool
-    ensures { λ r. ⌜ r ≡ anyPosition l ⌝ }
+fn any_fault(l: PositionFaults) -> bool
+    ensures { λ r. ⌜ r ≡ anyPositionFault l ⌝ }
 {
-    l.unnamed | l.lots
+    l.missing | l.lots
 }
 
 // How many marks, as a u32.
@@ -55,16 +55,16 @@ fn narrow(n: usize) -> u32
 }
 
 // Whether anything is wrong with some position by itself. All are looked at, in numbers of 32 bits: so the compiler takes four at a time.
-fn look_at_all(marks: &[u8], positions: &[u8]) -> bool
+fn some_fault(marks: &[u8], positions: &[u8]) -> bool
     requires { ⌜ length (marksIn (now marks)) ≤ fileLimits .marks ⌝ }
-    ensures { λ r. ⌜ r ≡ some (λ i. anyPosition (positionLook (marksIn (now (marks .entry))) (positionAt (positionsIn (now (positions .entry))) i))) (length (positionsIn (now (positions .entry)))) ⌝ }
+    ensures { λ r. ⌜ r ≡ some (λ i. anyPositionFault (positionFaults (marksIn (now (marks .entry))) (positionAt (positionsIn (now (positions .entry))) i))) (length (positionsIn (now (positions .entry)))) ⌝ }
 {
     let m = narrow(mark_count(marks));
     let n = position_count(positions);
     let mut bad = false;
     let mut i = 0;
     while i < n {
-        bad = bad | any(look(m, raw_position_at(positions, i)));
+        bad = bad | any_fault(faults(m, raw_position_at(positions, i)));
         i += 1;
     }
     bad
@@ -72,22 +72,23 @@ fn look_at_all(marks: &[u8], positions: &[u8]) -> bool
 
 // The first position with each fault.
 pub struct PositionFindings {
-    pub unnamed: Found,
+    pub missing: Found,
     pub lots: Found,
 }
 
 // One position more.
-fn with_position(f: PositionFindings, l: PositionLook, i: usize) -> PositionFindings
+fn with_position(f: PositionFindings, l: PositionFaults, i: usize) -> PositionFindings
     ensures { λ r. ⌜ WithPosition f l i r ⌝ }
 {
-    let unnamed = f.unnamed;
+    let missing = f.missing;
     let lots = f.lots;
     PositionFindings {
-        unnamed: unnamed.or_at(l.unnamed, i),
+        missing: missing.or_at(l.missing, i),
         lots: lots.or_at(l.lots, i),
     }
 }
 
+// The first position with each fault, by a search among all.
 fn find_first(marks: &[u8], positions: &[u8]) -> PositionFindings
     requires { ⌜ length (marksIn (now marks)) ≤ fileLimits .marks ⌝ }
     ensures { λ r. ⌜ r ≡ positionFindings (marksIn (now (marks .entry))) (positionsIn (now (positions .entry))) (length (positionsIn (now (positions .entry)))) ⌝ }
@@ -95,12 +96,12 @@ fn find_first(marks: &[u8], positions: &[u8]) -> PositionFindings
     let m = narrow(mark_count(marks));
     let n = position_count(positions);
     let mut f = PositionFindings {
-        unnamed: Found::Nothing,
+        missing: Found::Nothing,
         lots: Found::Nothing,
     };
     let mut i = 0;
     while i < n {
-        f = with_position(f, look(m, raw_position_at(positions, i)), i);
+        f = with_position(f, faults(m, raw_position_at(positions, i)), i);
         i += 1;
     }
     f
@@ -110,19 +111,19 @@ fn find_first(marks: &[u8], positions: &[u8]) -> PositionFindings
 fn decide(f: PositionFindings) -> Decision
     ensures { λ r. ⌜ r ≡ positionDecision f ⌝ }
 {
-    let unnamed = f.unnamed;
+    let missing = f.missing;
     let lots = f.lots;
     let d = Decision::Unmet;
-    let d = d.or(12, unnamed);
-    d.or(13, lots)
+    let d = d.or_found(12, missing);
+    d.or_found(13, lots)
 }
 
-// What the checks decide of positions, given marks within the file's limit.
+// What the checks decide of positions within the file's limit, given the marks.
 pub(crate) fn decide_positions(marks: &[u8], positions: &[u8]) -> Decision
-    requires { ⌜ length (marksIn (now marks)) ≤ fileLimits .marks ⌝ }
+    requires { ⌜ (length (marksIn (now marks)) ≤ fileLimits .marks) × (length (positionsIn (now positions)) ≤ fileLimits .positions) ⌝ }
     ensures { λ r. ⌜ r ≡ decisionOf (positionChecks (marksIn (now (marks .entry))) (positionsIn (now (positions .entry)))) ⌝ }
 {
-    if look_at_all(marks, positions) {
+    if some_fault(marks, positions) {
         return decide(find_first(marks, positions));
     }
     Decision::Unmet
@@ -130,7 +131,7 @@ pub(crate) fn decide_positions(marks: &[u8], positions: &[u8]) -> Decision
 
 // What the checks decide of a list of positions, given the marks: 2 where a file may not have as many of either, then 12 and 13.
 pub fn check_positions(marks: &[u8], positions: &[u8]) -> Decision
-    ensures { λ r. ⌜ r ≡ decisionOf (positionsAlone (marksIn (now (marks .entry))) (positionsIn (now (positions .entry)))) ⌝ }
+    ensures { λ r. ⌜ r ≡ decisionOf (positionListChecks fileLimits (marksIn (now (marks .entry))) (positionsIn (now (positions .entry)))) ⌝ }
 {
     if (mark_count(marks) > DayFile::MAX_MARKS)
         | (position_count(positions) > DayFile::MAX_POSITIONS)

@@ -9,8 +9,8 @@ use native.Mathlib.Omega.{arith}
 use lib.Dec.{leb}
 use borrow.Author.Tests.{leb-true}
 use Rattle.numbers.specs.Folds.{first}
-use Rattle.numbers.specs.Order.{pick, andThen, orFound, decision}
-use Rattle.numbers.specs.Checks.{Check, Checks, wholly, _before_, numberOf, HoldsAt, Refuses, Passes, findingOf, decisionOf}
+use Rattle.numbers.specs.Order.{pick, orLater, orFound, decision}
+use Rattle.numbers.specs.Checks.{Check, Checks, only, _before_, numberOf, HoldsAt, Refuses, Passes, findingOf, decisionOf}
 use Rattle.numbers.specs.declared.Found.{Found}
 use Rattle.numbers.specs.declared.Found.the-variants.{At, Nothing}
 use Rattle.numbers.specs.declared.deciding.Decision.{Decision}
@@ -43,8 +43,8 @@ pub agree-before : (p q : Checks) → Agree p → Agree q → Agree (p before q)
 agree-before p q a b (inl c) = a c
 agree-before p q a b (inr c) = b c
 
-pub agree-wholly : (c : Check) → ((i : ℕ) → Tells (c .test i) (c .Wrong i)) → Agree (wholly c)
-agree-wholly c t n = t
+pub agree-only : (c : Check) → ((i : ℕ) → Tells (c .test i) (c .Wrong i)) → Agree (only c)
+agree-only c t n = t
 
 -- ---- checks that pass
 
@@ -63,25 +63,25 @@ module _ (cs : Checks) where
 
 -- ---- one part of an order after the other
 
-pick-then : (o : Found) (k : ℕ) (d e : Decision) → pick o k (andThen d e) ≡ andThen (pick o k d) e
+pick-then : (o : Found) (k : ℕ) (d e : Decision) → pick o k (orLater d e) ≡ orLater (pick o k d) e
 pick-then (At i) k d e = refl
 pick-then Nothing k d e = refl
 
-pub both-unmet : (d e : Decision) → andThen d e ≡ Unmet → (d ≡ Unmet) × (e ≡ Unmet)
+pub both-unmet : (d e : Decision) → orLater d e ≡ Unmet → (d ≡ Unmet) × (e ≡ Unmet)
 both-unmet Unmet e p = (refl, p)
 both-unmet (Met k i) e p = absurd (let z : _≡_ {A = ℕ} 0 1 = cc in omega arith)
 
 module _ {R : Type 0} (number : R → ℕ) (finding : R → Found) where
-  decision-append : (xs ys : List R) → decision number finding (xs ++ ys) ≡ andThen (decision number finding xs) (decision number finding ys)
+  decision-append : (xs ys : List R) → decision number finding (xs ++ ys) ≡ orLater (decision number finding xs) (decision number finding ys)
   decision-append [] ys = refl
   decision-append (x ∷ xs) ys =
       ap (pick (finding x) (number x)) (decision-append xs ys) ∙ pick-then (finding x) (number x) (decision number finding xs) (decision number finding ys)
 
-  decision-steps : (d : Decision) (x : R) (xs : List R) → andThen d (decision number finding (x ∷ xs)) ≡ andThen (orFound d (number x) (finding x)) (decision number finding xs)
+  decision-steps : (d : Decision) (x : R) (xs : List R) → orLater d (decision number finding (x ∷ xs)) ≡ orLater (orFound d (number x) (finding x)) (decision number finding xs)
   decision-steps (Met k i) x xs = refl
   decision-steps Unmet x xs = by-found (finding x)
     where
-      by-found : (o : Found) → pick o (number x) (decision number finding xs) ≡ andThen (pick o (number x) Unmet) (decision number finding xs)
+      by-found : (o : Found) → pick o (number x) (decision number finding xs) ≡ orLater (pick o (number x) Unmet) (decision number finding xs)
       by-found (At i) = refl
       by-found Nothing = refl
 
@@ -90,12 +90,12 @@ module _ {R : Type 0} (number : R → ℕ) (finding : R → Found) where
   decision-map f (x ∷ xs) = ap (pick (finding (f x)) (number (f x))) (decision-map f xs)
 
 -- one check after the other
-and-none : (d : Decision) → d ≡ andThen d Unmet
+and-none : (d : Decision) → d ≡ orLater d Unmet
 and-none (Met k i) = refl
 and-none Unmet = refl
 
 by-steps : {R : Type 0} (number : R → ℕ) (finding : R → Found) (d : Decision) (xs : List R)
-    → foldl (λ d x. orFound d (number x) (finding x)) d xs ≡ andThen d (decision number finding xs)
+    → foldl (λ d x. orFound d (number x) (finding x)) d xs ≡ orLater d (decision number finding xs)
 by-steps number finding d [] = and-none d
 by-steps number finding d (x ∷ xs) = by-steps number finding (orFound d (number x) (finding x)) xs ∙ sym (decision-steps number finding d x xs)
 
@@ -104,18 +104,18 @@ unfolding decisionOf
 decision-by-steps cs = by-steps (numberOf cs) (findingOf cs) Unmet (cs .order)
 
 -- one check by itself
-pub decision-wholly : (c : Check) → decisionOf (wholly c) ≡ pick (cond (c .test 0) (At 0) Nothing) (c .number) Unmet
+pub decision-only : (c : Check) → decisionOf (only c) ≡ pick (cond (c .test 0) (At 0) Nothing) (c .number) Unmet
 unfolding decisionOf first
-decision-wholly c = refl
+decision-only c = refl
 
-pub decision-before : (p q : Checks) → decisionOf (p before q) ≡ andThen (decisionOf p) (decisionOf q)
+pub decision-before : (p q : Checks) → decisionOf (p before q) ≡ orLater (decisionOf p) (decisionOf q)
 unfolding decisionOf
 decision-before p q =
     let number = numberOf (p before q) in
     let finding = findingOf (p before q) in
     decision-append number finding (map inl (p .order)) (map inr (q .order))
-    ∙ ap (λ d. andThen d (decision number finding (map inr (q .order)))) (decision-map number finding inl (p .order))
-    ∙ ap (andThen (decision (numberOf p) (findingOf p) (p .order))) (decision-map number finding inr (q .order))
+    ∙ ap (λ d. orLater d (decision number finding (map inr (q .order)))) (decision-map number finding inl (p .order))
+    ∙ ap (orLater (decision (numberOf p) (findingOf p) (p .order))) (decision-map number finding inr (q .order))
 
 -- ---- the number and the index of a refusal
 

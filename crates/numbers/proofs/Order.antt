@@ -9,7 +9,7 @@ use native.Mathlib.Omega.{arith}
 use borrow.Author.Tests.{ltb-true, ltb-false}
 use lib.Dec.{ltb}
 use Rattle.numbers.specs.Folds.{first, orElse}
-use Rattle.numbers.specs.Order.{Decides, Clear, pick, andThen, orFound, decision}
+use Rattle.numbers.specs.Order.{Decides, Clear, pick, orLater, orFound, decision}
 use Rattle.numbers.specs.declared.Found.{Found}
 use Rattle.numbers.specs.declared.Found.the-variants.{At, Nothing}
 use Rattle.numbers.specs.declared.deciding.Decision.{Decision}

@@ -21,8 +21,8 @@ pub record Checks : Type 1 where
   pub order : List Name
 
 -- one check of a thing as a whole, which has the index 0
-abbrev pub wholly : Check → Checks
-wholly c = record { Name = Unit {0}; check = λ n. c; size = λ n. 1; order = tt ∷ [] }
+abbrev pub only : Check → Checks
+only c = record { Name = Unit {0}; check = λ n. c; size = λ n. 1; order = tt ∷ [] }
 
 -- first those of p, then those of q
 infixr 5 _before_

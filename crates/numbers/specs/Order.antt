@@ -32,9 +32,9 @@ pick (At i) k d = Met k i
 pick Nothing k d = d
 
 -- what is decided first
-abbrev pub andThen : Decision → Decision → Decision
-andThen (Met k i) d = Met k i
-andThen Unmet d = d
+abbrev pub orLater : Decision → Decision → Decision
+orLater (Met k i) d = Met k i
+orLater Unmet d = d
 
 -- what is decided so far, or else what a condition with the number k found
 abbrev pub orFound : Decision → ℕ → Found → Decision

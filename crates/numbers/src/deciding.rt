@@ -1,7 +1,7 @@
 // The first of some numbered conditions, in their order, that a record meets.
 use crate::Found;
 ghost use mathlib.Core.Path.{_≡_};
-ghost use Rattle.numbers.specs.Order.{orFound, andThen};
+ghost use Rattle.numbers.specs.Order.{orFound, orLater};
 
 // The number of the condition that decides, with the index of the record that meets it first; or that no record meets any.
 pub enum Decision {
@@ -11,7 +11,7 @@ pub enum Decision {
 
 impl Decision {
     // What is decided so far, or else what the condition with this number found.
-    pub fn or(self, number: u32, found: Found) -> Decision
+    pub fn or_found(self, number: u32, found: Found) -> Decision
         ensures { λ r. ⌜ r ≡ orFound self number found ⌝ }
     {
         match self {
@@ -27,8 +27,8 @@ impl Decision {
     }
 
     // What is decided so far, or else what later conditions decide.
-    pub fn and_then(self, later: Decision) -> Decision
-        ensures { λ r. ⌜ r ≡ andThen self later ⌝ }
+    pub fn or(self, later: Decision) -> Decision
+        ensures { λ r. ⌜ r ≡ orLater self later ⌝ }
     {
         match self {
             Decision::Met {

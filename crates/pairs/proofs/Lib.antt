@@ -1,3 +1,4 @@
+pub mod Example
 pub mod Least
 pub mod Records
 mod Rooms

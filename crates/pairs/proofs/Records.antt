@@ -1,12 +1,14 @@
 -- The keys of a list's records, and how many of the records are looked at.
 use mathlib.Core.Path.{_≡_, refl, sym, ap, _∙_}
+use mathlib.Core.Logic.{_↔_}
 use mathlib.Core.List.{List, [], map}
 use Prim.Native.Nat.{ℕ, _*_, _/_, _≤_, _<_}
 use native.Mathlib.Decide.{decLt}
 use native.Mathlib.Omega.{arith}
 use lib.ListN.{length, getD}
 use borrow.Author.Tests.{le-ltb, lt-ltb}
-use Rattle.numbers.specs.Bytes.{u32At, part, recordsOf}
+use Rattle.numbers.specs.Bytes.{Bytes, u32At, part, recordsOf}
+use Rattle.numbers.proofs.Bytes.{u32-small}
 use Rattle.numbers.proofs.Sections.{records-count, record-here, record-past}
 use Rattle.pairs.specs.Keys.{widthOf, keyOf, keysIn, keyAt, least, most, lookedAt}
 use Rattle.pairs.specs.declared.keys.Key.{Key}

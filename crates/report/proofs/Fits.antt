@@ -1,5 +1,5 @@
 -- The sheet of every file fits a buffer of `sheetSize` bytes.
-use mathlib.Core.Path.{_≡_, refl, sym, ap}
+use mathlib.Core.Path.{_≡_, refl, ap}
 use mathlib.Core.Bool.{Bool, true, false, cond}
 use mathlib.Core.List.{List, _++_}
 use Prim.Native.Nat.{ℕ, _*_, _^_, _≤_, _<_}
@@ -15,7 +15,7 @@ use Rattle.numbers.proofs.Counting.{count-small}
 use Rattle.dayfile.specs.Limits.{fileLimits}
 use Rattle.dayfile.specs.Records.{Lists, positionAt, markSize, positionSize}
 use Rattle.numbers.specs.Folds.{repeating}
-use Rattle.numbers.specs.Checks.{wholly, _before_, decisionOf}
+use Rattle.numbers.specs.Checks.{only, _before_, decisionOf}
 use Rattle.numbers.specs.declared.deciding.Decision.{Decision}
 use Rattle.numbers.specs.declared.deciding.Decision.the-variants.{Met, Unmet}
 use Rattle.numbers.proofs.Checks.{Sized, sized-before, number-within, index-within}
@@ -91,7 +91,7 @@ sizes f places h =
     let c = correctionChecks (l .marks) (l .corrections) in
     let p = positionChecks (l .marks) (l .positions) in
     let header = headerChecks fileLimits f in
-    sized-before (fileChecks fileLimits f) (wholly (roomCheck l places))
+    sized-before (fileChecks fileLimits f) (only (roomCheck l places))
     (sized-before header (recordChecks l) (λ x. omega arith)
     (sized-before m (c before p) (λ x. omega (arith, h .marks)) (sized-before c p (λ x. omega (arith, h .corrections)) (λ x. h .positions))))
     (λ x. omega arith)
@@ -104,7 +104,7 @@ module _ (s : List ℕ) (places : ℕ) where
   refused-fits : {k i : ℕ} → planOf fileLimits s places ≡ refuse k i → i ≤ fileLimits .positions → length (sheetOf s places) ≤ sheetSize
   unfolding sheetOf answerOf positionsText answerText
   refused-fits {k} {i} e h =
-      let n = number-within (settlementChecks fileLimits s places) 14 refl (demand-2 fileLimits s places .0 (refused-answer e)) in
+      let n = number-within (settlementChecks fileLimits s places) 99 refl (demand-2 fileLimits s places .0 (refused-answer e)) in
       rw e (omega (arith, refusal-length k i (omega arith) (omega arith)))
 
   -- a file that opens

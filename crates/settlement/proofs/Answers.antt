@@ -75,6 +75,8 @@ files =
     ∷ (header 0 25 0 24 0 24 answers refused 3 0)
     ∷ (header 0 24 0 25 0 24 answers refused 3 0)
     ∷ (header 0 24 0 24 0 25 answers refused 3 0)
+    -- and a byte too many
+    ∷ (fileOf m c p ++ (0 ∷ []) answers refused 3 0)
     -- marks: the code, the month, the year, each price above the limit, each price off its tick, one contract twice
     ∷ (fileOf (markOf (66, 67) 6 19 940000 940100) c p answers refused 4 1)
     ∷ (fileOf (markOf BB 7 19 940000 940100) c p answers refused 5 1)
@@ -88,6 +90,7 @@ files =
     ∷ (fileOf m (three 5 2 951000) p answers refused 9 1)
     ∷ (fileOf m (three 5 0 1000100) p answers refused 10 1)
     ∷ (fileOf m (three 5 0 951050) p answers refused 10 1)
+    ∷ (fileOf (markOf IB 3 18 940000 940050) (three 5 0 950050) p answers refused 10 1)
     ∷ (fileOf m (three 7 1 950100) p answers refused 11 1)
     ∷ (fileOf m (three 7 0 951000) p answers refused 11 1)
     -- positions: no mark, no lots, too many either way
@@ -95,12 +98,14 @@ files =
     ∷ (fileOf m c (three 12 1 0) answers refused 13 1)
     ∷ (fileOf m c (three 12 1 1000001) answers refused 13 1)
     ∷ (fileOf m c (three 12 1 4293967295) answers refused 13 1)
-    -- what passes: the last year, another year or month of a code, another code, the most lots either way, a price at the limit
+    -- what passes: the last year, another year or month of a code, another code, a correction on its own mark's tick, the most lots either way,
+    -- a price at the limit
     ∷ (fileOf m c p answers settled 2 (pos 24060) (negsuc 9575) 0)
     ∷ (fileOf (markOf BB 6 99 940000 940100) c p answers settled 2 (pos 24060) (negsuc 9575) 0)
     ∷ (fileOf (markOf IR 3 19 940000 940100) c p answers settled 2 (pos 14484) (pos 0) 0)
     ∷ (fileOf (markOf IR 6 18 940000 940100) c p answers settled 2 (pos 14484) (pos 0) 0)
     ∷ (fileOf (markOf IB 3 18 940000 940100) c p answers settled 2 (pos 14196) (pos 0) 0)
+    ∷ (fileOf (markOf IB 3 18 940000 940050) (three 5 1 940150) p answers settled 2 (pos 9264) (pos 0) 0)
     ∷ (fileOf m c (three 12 1 1000000) answers settled 2 (pos 24060) (pos 2394000000) 0)
     ∷ (fileOf m c (three 12 1 4293967296) answers settled 2 (pos 24060) (negsuc 2393999999) 0)
     ∷ (fileOf (markOf BB 6 19 1000000 1000000) c p answers settled 2 (pos 24060) (pos 0) 0)

@@ -8,13 +8,13 @@ use native.Mathlib.Omega.{arith}
 use lib.Dec.{ltb}
 use lib.IntN.{ℤ}
 use lib.ListN.{length}
-use Rattle.numbers.specs.Order.{pick, andThen}
-use Rattle.numbers.specs.Checks.{wholly, decisionOf}
+use Rattle.numbers.specs.Order.{pick, orLater}
+use Rattle.numbers.specs.Checks.{only, decisionOf}
 use Rattle.numbers.specs.declared.Found.the-variants.{At, Nothing}
 use Rattle.numbers.specs.declared.deciding.Decision.{Decision}
 use Rattle.numbers.specs.declared.deciding.Decision.the-variants.{Met, Unmet}
 use Rattle.numbers.proofs.Truth.{tells-lt}
-use Rattle.numbers.proofs.Checks.{Agree, agree-before, agree-wholly, decision-before, decision-wholly, refuses-exactly, passes-exactly}
+use Rattle.numbers.proofs.Checks.{Agree, agree-before, agree-only, decision-before, decision-only, refuses-exactly, passes-exactly}
 use Rattle.dayfile.specs.Limits.{Limits}
 use Rattle.dayfile.specs.Layout.{listsOfFile}
 use Rattle.checks.specs.Judging.{fileChecks}
@@ -26,8 +26,8 @@ use Rattle.settlement.proofs.Plans.{planFrom, plan-decided}
 module _ (l : Limits) (f : List ℕ) (places : ℕ) where
   agrees : Agree (settlementChecks l f places)
   agrees =
-      agree-before (fileChecks l f) (wholly (roomCheck (listsOfFile f) places)) (file-agrees l f)
-      (agree-wholly (roomCheck (listsOfFile f) places) (λ i. tells-lt places (length (listsOfFile f .positions))))
+      agree-before (fileChecks l f) (only (roomCheck (listsOfFile f) places)) (file-agrees l f)
+      (agree-only (roomCheck (listsOfFile f) places) (λ i. tells-lt places (length (listsOfFile f .positions))))
 
   -- ---- the plan by what all checks decide
 
@@ -35,7 +35,7 @@ module _ (l : Limits) (f : List ℕ) (places : ℕ) where
   planBy (Met k i) = refuse k i
   planBy Unmet = accept (listsOfFile f)
 
-  by-room : (d : Decision) (t : Bool) → ltb places (length (listsOfFile f .positions)) ≡ t → planFrom f places d ≡ planBy (andThen d (pick (cond t (At 0) Nothing) 14 Unmet))
+  by-room : (d : Decision) (t : Bool) → ltb places (length (listsOfFile f .positions)) ≡ t → planFrom f places d ≡ planBy (orLater d (pick (cond t (At 0) Nothing) 14 Unmet))
   by-room (Met k i) t e = refl
   by-room Unmet true e = rw e
   by-room Unmet false e = rw e
@@ -45,7 +45,7 @@ module _ (l : Limits) (f : List ℕ) (places : ℕ) where
   answer-decided =
       let room = roomCheck (listsOfFile f) places in
       ap answerBy (plan-decided l f places ∙ by-room (decisionOf (fileChecks l f)) (ltb places (length (listsOfFile f .positions))) refl
-      ∙ ap planBy (ap (andThen (decisionOf (fileChecks l f))) (sym (decision-wholly room)) ∙ sym (decision-before (fileChecks l f) (wholly room))))
+      ∙ ap planBy (ap (orLater (decisionOf (fileChecks l f))) (sym (decision-only room)) ∙ sym (decision-before (fileChecks l f) (only room))))
 
   -- ---- the answer to a file
 

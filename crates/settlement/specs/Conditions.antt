@@ -3,7 +3,7 @@ use mathlib.Core.List.{List}
 use Prim.Native.Nat.{ℕ, _<_}
 use lib.Dec.{ltb}
 use lib.ListN.{length}
-use Rattle.numbers.specs.Checks.{Check, Checks, wholly, _before_, Refuses, Passes}
+use Rattle.numbers.specs.Checks.{Check, Checks, only, _before_, Refuses, Passes}
 use Rattle.dayfile.specs.Limits.{Limits}
 use Rattle.dayfile.specs.Records.{Lists}
 use Rattle.dayfile.specs.Layout.{listsOfFile}
@@ -15,7 +15,7 @@ roomCheck ls places = record { number = 14; Wrong = λ i. places < length (ls .p
 
 -- all checks of a settlement, in their order
 abbrev pub settlementChecks : Limits → List ℕ → ℕ → Checks
-settlementChecks l f places = fileChecks l f before wholly (roomCheck (listsOfFile f) places)
+settlementChecks l f places = fileChecks l f before only (roomCheck (listsOfFile f) places)
 
 -- Check k turns the file away at the record i: its condition holds there and at no record before it, and no condition of a check
 -- that stands before it in the order holds at any record.

@@ -21,11 +21,11 @@ abbrev μ-loop : tie.MeasureT-loop
 loop-holds : tie.Need-loop-holds Inv-loop μ-loop
 loop-holds c = (search needs, refl)
 
-mul-is-one : tie.Need-mul-is-one Inv-loop μ-loop
-mul-is-one c = omega (arith, c .before .before .correction-count .ensures, c .before .before .before .before .pre .few)
+mul-is-some : tie.Need-mul-is-some Inv-loop μ-loop
+mul-is-some c = omega (arith, c .before .before .correction-count .ensures, c .before .before .before .before .pre .few)
 
-element-copy-out-is-one : tie.Need-element-copy-out-is-one Inv-loop μ-loop
-element-copy-out-is-one c = omega (arith, c .before .before .correction-count .ensures, c .before .before .before .before .pre .few)
+element-copy-out-is-some : tie.Need-element-copy-out-is-some Inv-loop μ-loop
+element-copy-out-is-some c = omega (arith, c .before .before .correction-count .ensures, c .before .before .before .before .pre .few)
 
 add-t : tie.Need-add-t Inv-loop μ-loop
 add-t c = omega arith
@@ -41,7 +41,7 @@ loop-again c =
     let at = c .before .before .before .before .loop in
     let a = c .before .before .before .before .before .before .before .args in
     let inside : at .i < length (correctionsIn (a .corrections .now)) = rw (← c .before .before .before .before .before .correction-count .ensures) (c .before .before .before .loop-test .taken) in
-    (omega arith, rw (add-one, c .one-if .ensures .0, repeats (correctionsIn (a .corrections .now)) (c .before .before .before .before .before .before .before .pre) inside (c .before .is-one .ensures), at .inv .1))
+    (omega arith, rw (add-one, c .one-if .ensures .0, repeats (correctionsIn (a .corrections .now)) (c .before .before .before .before .before .before .before .pre) inside (c .before .is-some .ensures), at .inv .1))
 
 returns : tie.Need-returns Inv-loop μ-loop
 returns c = rw (← c .before .before .correction-count .ensures) (at-end (count _) (c .before .loop .inv .1) (c .before .loop .inv .0 .0) (c .loop-test .left))
@@ -54,8 +54,8 @@ resent-count-spec =
     μ-loop
     (λ c κs. search needs)
     loop-holds
-    mul-is-one
-    element-copy-out-is-one
+    mul-is-some
+    element-copy-out-is-some
     (λ c κs. search needs)
     (λ c κs. search needs)
     add-t

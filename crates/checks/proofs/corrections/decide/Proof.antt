@@ -3,7 +3,7 @@ use Rattle.checks.proofs.corrections.decide.Statement.{statement}
 use Rattle.checks.proofs.corrections.decide.Tie as tie
 
 returns : tie.Need-returns
-returns c = rw (c .or3 .ensures, c .before .or2 .ensures, c .before .before .or .ensures)
+returns c = rw (c .or-found3 .ensures, c .before .or-found2 .ensures, c .before .before .or-found .ensures)
 
 pub decide-spec : {M : Type 1} → statement M
 decide-spec = tie.close

@@ -24,7 +24,7 @@ returns-2 c =
     let a = c .before .before .before .before .before .before .before .before .before .before .before .before .args in
     let k = c .before .before in
     let n = neither (c .before .is-some .ensures) (c .if1 .left) in
-    (sym (corrections-clear (marksIn (a .marks .now)) (correctionsIn (a .corrections .now)) (sym (c .before .before .before .before .before .before .before .before .before .look-at-all .ensures) ∙ n .0) (sym (k .before .before .first-clash .ensures) ∙ n .1)), k .resent-count .ensures)
+    (sym (corrections-clear (marksIn (a .marks .now)) (correctionsIn (a .corrections .now)) (sym (c .before .before .before .before .before .before .before .before .before .some-fault .ensures) ∙ n .0) (sym (k .before .before .first-clash .ensures) ∙ n .1)), k .resent-count .ensures)
 
 pub decide-corrections-spec : {M : Type 1} → statement M
 decide-corrections-spec =

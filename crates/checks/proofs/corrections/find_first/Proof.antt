@@ -2,7 +2,7 @@ use Prim.Native.Nat.{_≤_, _-_}
 use mathlib.Core.Path.{_≡_, ap, _∙_}
 use native.Mathlib.Omega.{arith}
 use Rattle.dayfile.specs.Records.{marksIn, correctionsIn}
-use Rattle.checks.specs.Looks.{correctionLook, correctionFindings}
+use Rattle.checks.specs.Faults.{correctionFaults, correctionFindings}
 use Rattle.numbers.proofs.Chain.{at-end}
 use Rattle.checks.proofs.Deciding.{no-corrections, correction-more}
 use borrow.Author.Needs.{needs}
@@ -18,8 +18,8 @@ abbrev μ-loop : tie.MeasureT-loop
 loop-holds : tie.Need-loop-holds Inv-loop μ-loop
 loop-holds c = (search needs, no-corrections _ _)
 
-look-requires : tie.Need-look-requires Inv-loop μ-loop
-look-requires c κs = c .before .before .before .before .before .before .pre
+faults-requires : tie.Need-faults-requires Inv-loop μ-loop
+faults-requires c κs = c .before .before .before .before .before .before .pre
 
 add-i : tie.Need-add-i Inv-loop μ-loop
 add-i c = omega arith
@@ -32,7 +32,7 @@ loop-again c =
     let at = c .before .before .before .before .loop in
     let a = c .before .before .before .before .before .before .before .before .args in
     let ms = marksIn (a .marks .now) in
-    (omega arith, correction-more ms (correctionsIn (a .corrections .now)) (at .i) (at .inv .1) (c .before .look .ensures ∙ ap (correctionLook ms) (c .before .before .correction-at .ensures)) (c .with-correction .ensures))
+    (omega arith, correction-more ms (correctionsIn (a .corrections .now)) (at .i) (at .inv .1) (c .before .faults .ensures ∙ ap (correctionFaults ms) (c .before .before .correction-at .ensures)) (c .with-correction .ensures))
 
 returns : tie.Need-returns Inv-loop μ-loop
 returns c =
@@ -50,7 +50,7 @@ find-first-spec =
     (λ c κs. search needs)
     loop-holds
     (λ c κs. search needs)
-    look-requires
+    faults-requires
     (λ c κs. search needs)
     add-i
     loop-less

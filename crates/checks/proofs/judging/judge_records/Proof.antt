@@ -13,21 +13,21 @@ decide-corrections-requires : tie.Need-decide-corrections-requires
 decide-corrections-requires c κs = (c .before .decide-marks .ensures .1, c .before .before .before .before .before .before .pre .corrections)
 
 decide-positions-requires : tie.Need-decide-positions-requires
-decide-positions-requires c κs = c .before .before .before .before .before .before .before .pre .marks
+decide-positions-requires c κs = let s = c .before .before .before .before .before .before .before .pre in (s .marks, s .positions)
 
 returns : tie.Need-returns
 returns c =
     let k = c .before .before .before in
     let s = k .before .before in
     let a = s .before .before .before .before .before .before .before .before .args in
-    judged-by _ _ (records-decided (listsOf (a .marks .now) (a .corrections .now) (a .positions .now)) (s .before .before .before .decide-marks .ensures .0) (s .before .decide-corrections .ensures .0) (s .decide-positions .ensures) (k .before .and-then .ensures) (k .and-then2 .ensures)) (c .before .number .given .1) refl
+    judged-by _ _ (records-decided (listsOf (a .marks .now) (a .corrections .now) (a .positions .now)) (s .before .before .before .decide-marks .ensures .0) (s .before .decide-corrections .ensures .0) (s .decide-positions .ensures) (k .before .or .ensures) (k .or2 .ensures)) (c .before .number .given .1) refl
 
 returns-2 : tie.Need-returns-2
 returns-2 c =
     let k = c .before .before in
     let s = k .before .before in
     let a = s .before .before .before .before .before .before .before .before .args in
-    judged-by _ _ (records-decided (listsOf (a .marks .now) (a .corrections .now) (a .positions .now)) (s .before .before .before .decide-marks .ensures .0) (s .before .decide-corrections .ensures .0) (s .decide-positions .ensures) (k .before .and-then .ensures) (k .and-then2 .ensures)) (c .enum-told .given .1) (ap (Sound (a .counts)) (s .before .decide-corrections .ensures .1))
+    judged-by _ _ (records-decided (listsOf (a .marks .now) (a .corrections .now) (a .positions .now)) (s .before .before .before .decide-marks .ensures .0) (s .before .decide-corrections .ensures .0) (s .decide-positions .ensures) (k .before .or .ensures) (k .or2 .ensures)) (c .enum-told .given .1) (ap (Sound (a .counts)) (s .before .decide-corrections .ensures .1))
 
 pub judge-records-spec : {M : Type 1} → statement M
 judge-records-spec =

@@ -2,7 +2,7 @@ use Prim.Native.Nat.{_≤_, _-_}
 use mathlib.Core.Path.{_≡_, ap, _∙_}
 use native.Mathlib.Omega.{arith}
 use Rattle.dayfile.specs.Records.{marksIn}
-use Rattle.checks.specs.Looks.{markLook, markFindings}
+use Rattle.checks.specs.Faults.{markFaults, markFindings}
 use Rattle.numbers.proofs.Chain.{at-end}
 use Rattle.checks.proofs.Deciding.{no-marks, mark-more}
 use borrow.Author.Needs.{needs}
@@ -28,7 +28,7 @@ loop-again : tie.Need-loop-again Inv-loop μ-loop
 loop-again c =
     let at = c .before .before .before .before .loop in
     let ms = marksIn (c .before .before .before .before .before .before .before .args .marks .now) in
-    (omega arith, mark-more ms (at .i) (at .inv .1) (c .before .look .ensures ∙ ap markLook (c .before .before .mark-at .ensures)) (c .with-mark .ensures))
+    (omega arith, mark-more ms (at .i) (at .inv .1) (c .before .faults .ensures ∙ ap markFaults (c .before .before .mark-at .ensures)) (c .with-mark .ensures))
 
 returns : tie.Need-returns Inv-loop μ-loop
 returns c =

@@ -1,9 +1,9 @@
 use lib.Dec.{ltb}
 use borrow.Author.Tests.{ltb-false}
-use Rattle.numbers.proofs.Truth.{or-left}
+use Rattle.numbers.proofs.Searches.{or-none}
 use Rattle.dayfile.specs.Limits.{fileLimits}
 use Rattle.dayfile.specs.Records.{marksIn, positionsIn}
-use Rattle.checks.specs.Positions.{positionChecks, manyPositions}
+use Rattle.checks.specs.Positions.{positionChecks, tooManyPositions}
 use Rattle.checks.proofs.Deciding.{too-many, not-many}
 use borrow.Author.Needs.{needs}
 use Rattle.checks.proofs.positions.check_positions.Statement.{statement}
@@ -14,17 +14,19 @@ returns c =
     let a = c .before .before .before .before .before .args in
     let ms = marksIn (a .marks .now) in
     let ps = positionsIn (a .positions .now) in
-    too-many (manyPositions ms ps) (positionChecks ms ps) (rw (← c .before .before .mark-count .ensures, ← c .before .position-count .ensures) (c .if1 .taken))
+    too-many (tooManyPositions fileLimits ms ps) (positionChecks ms ps) (rw (← c .before .before .mark-count .ensures, ← c .before .position-count .ensures) (c .if1 .taken))
 
 decide-positions-requires : tie.Need-decide-positions-requires
-decide-positions-requires c κs = rw (← c .before .before .mark-count .ensures) (ltb-false (fileLimits .marks) _ (or-left (ltb (fileLimits .marks) (c .before .before .mark-count .result)) _ (c .if1 .left)))
+decide-positions-requires c κs =
+    let more = or-none (ltb (fileLimits .marks) (c .before .before .mark-count .result)) (ltb (fileLimits .positions) (c .before .position-count .result)) (c .if1 .left) in
+    (rw (← c .before .before .mark-count .ensures) (ltb-false _ _ (more .0)), rw (← c .before .position-count .ensures) (ltb-false _ _ (more .1)))
 
 returns-2 : tie.Need-returns-2
 returns-2 c =
     let a = c .before .before .before .before .before .before .args in
     let ms = marksIn (a .marks .now) in
     let ps = positionsIn (a .positions .now) in
-    not-many (manyPositions ms ps) (positionChecks ms ps) (rw (← c .before .before .before .mark-count .ensures, ← c .before .before .position-count .ensures) (c .before .if1 .left)) (c .decide-positions .ensures)
+    not-many (tooManyPositions fileLimits ms ps) (positionChecks ms ps) (rw (← c .before .before .before .mark-count .ensures, ← c .before .before .position-count .ensures) (c .before .if1 .left)) (c .decide-positions .ensures)
 
 pub check-positions-spec : {M : Type 1} → statement M
 check-positions-spec =

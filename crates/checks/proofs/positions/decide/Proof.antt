@@ -3,7 +3,7 @@ use Rattle.checks.proofs.positions.decide.Statement.{statement}
 use Rattle.checks.proofs.positions.decide.Tie as tie
 
 returns : tie.Need-returns
-returns c = rw (c .or2 .ensures, c .before .or .ensures)
+returns c = rw (c .or-found2 .ensures, c .before .or-found .ensures)
 
 pub decide-spec : {M : Type 1} → statement M
 decide-spec = tie.close

@@ -2,10 +2,10 @@ use Prim.Native.Nat.{_≤_, _-_}
 use mathlib.Core.Path.{_≡_, ap, _∙_}
 use native.Mathlib.Omega.{arith}
 use Rattle.dayfile.specs.Records.{marksIn, positionsIn}
-use Rattle.checks.specs.Looks.{positionFindings}
+use Rattle.checks.specs.Faults.{positionFindings}
 use Rattle.numbers.proofs.Chain.{at-end}
 use Rattle.checks.proofs.Deciding.{no-positions, position-more}
-use Rattle.checks.proofs.RawLots.{raw-looked}
+use Rattle.checks.proofs.RawLots.{raw-faults}
 use borrow.Author.Needs.{needs}
 use Rattle.checks.proofs.positions.find_first.Statement.{statement}
 use Rattle.checks.proofs.positions.find_first.Tie as tie
@@ -30,7 +30,7 @@ loop-again c =
     let at = c .before .before .before .before .loop in
     let a = c .before .before .before .before .before .before .before .before .before .before .args in
     let ms = marksIn (a .marks .now) in
-    (omega arith, position-more ms (positionsIn (a .positions .now)) (at .i) (at .inv .1) (raw-looked ms (a .positions .now) (at .i) (c .before .before .before .before .before .before .narrow .ensures ∙ c .before .before .before .before .before .before .before .mark-count .ensures) (c .before .before .raw-position-at .ensures) (search needs) (c .before .look .ensures)) (c .with-position .ensures))
+    (omega arith, position-more ms (positionsIn (a .positions .now)) (at .i) (at .inv .1) (raw-faults ms (a .positions .now) (at .i) (c .before .before .before .before .before .before .narrow .ensures ∙ c .before .before .before .before .before .before .before .mark-count .ensures) (c .before .before .raw-position-at .ensures) (search needs) (c .before .faults .ensures)) (c .with-position .ensures))
 
 returns : tie.Need-returns Inv-loop μ-loop
 returns c =

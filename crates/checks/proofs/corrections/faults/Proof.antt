@@ -2,10 +2,10 @@ use Prim.Native.Nat.{_<_}
 use native.Mathlib.Omega.{arith}
 use lib.ListN.{length}
 use Rattle.dayfile.specs.Records.{marksIn}
-use Rattle.checks.proofs.Looking.{without-mark, with-mark}
+use Rattle.checks.proofs.Faults.{without-mark, with-mark}
 use borrow.Author.Needs.{needs}
-use Rattle.checks.proofs.corrections.look.Statement.{statement}
-use Rattle.checks.proofs.corrections.look.Tie as tie
+use Rattle.checks.proofs.corrections.faults.Statement.{statement}
+use Rattle.checks.proofs.corrections.faults.Tie as tie
 
 returns : tie.Need-returns
 returns c = let a = c .before .before .before .before .args in without-mark (marksIn (a .marks .now)) (a .c) (omega (arith, c .before .before .mark-count .ensures, c .before .if1 .taken)) (c .above-limit .ensures)
@@ -22,8 +22,8 @@ returns-2 c =
     let h : s .args .c .mark < length (marksIn (s .args .marks .now)) = omega (arith, c .before .before .before .before .mark-count .ensures, c .before .before .before .if1 .left) in
     with-mark (marksIn (s .args .marks .now)) (s .args .c) (s .pre) h (c .before .before .above-limit2 .ensures) (c .off-tick .ensures)
 
-pub look-spec : {M : Type 1} → statement M
-look-spec =
+pub faults-spec : {M : Type 1} → statement M
+faults-spec =
     tie.close
     (tie.spec
     (λ c κs. search needs)

@@ -18,21 +18,21 @@ use Rattle.dayfile.specs.declared.records.Correction.{Correction}
 use Rattle.checks.specs.Table.{aboveLimit, listed, listedIn, quoted, quotedIn, tickOf, tickIn}
 use Rattle.checks.specs.Marks.{highMark, offTick}
 use Rattle.checks.specs.Corrections.{badPrice}
-use Rattle.checks.specs.Looks.{markLook, lookBy, correctionLook, tickAt, Ticks}
-use Rattle.checks.specs.declared.marks.MarkLook.{MarkLook}
-use Rattle.checks.specs.declared.corrections.CorrectionLook.{CorrectionLook}
+use Rattle.checks.specs.Faults.{markFaults, faultsBy, correctionFaults, tickAt, Ticks}
+use Rattle.checks.specs.declared.marks.MarkFaults.{MarkFaults}
+use Rattle.checks.specs.declared.corrections.CorrectionFaults.{CorrectionFaults}
 
 -- ---- a mark, by what the lookup of its code found
 
-abbrev pub lookIn : Mark → Found → MarkLook
-lookIn m (At q) = lookBy q m
-lookIn m Missing = record { code = true; date = true; high = highMark m; off = false; tick = 1 }
+abbrev pub faultsIn : Mark → Found → MarkFaults
+faultsIn m (At q) = faultsBy q m
+faultsIn m Missing = record { code = true; date = true; high = highMark m; off = false; tick = 1 }
 
-pub looked : (m : Mark) → lookIn m (find (m .code)) ≡ markLook m
+pub faults-found : (m : Mark) → faultsIn m (find (m .code)) ≡ markFaults m
 unfolding listed quoted tickOf
-looked m = go (find (m .code))
+faults-found m = go (find (m .code))
   where
-    go : (o : Found) → lookIn m o
+    go : (o : Found) → faultsIn m o
         ≡ record {
           code = not (listedIn o);
           date = not (quotedIn o (m .month)) || ltb yearLimit (m .year);
@@ -55,9 +55,9 @@ no-tick = refl
 
 module _ (ms : List Mark) (c : Correction) where
   -- there is no mark with its index: a price has no tick to be off
-  pub without-mark : length ms ≤ c .mark → {a : Bool} → a ≡ aboveLimit (c .price) → _≡_ {A = CorrectionLook} (record { unnamed = true; price = a }) (correctionLook ms c)
+  pub without-mark : length ms ≤ c .mark → {a : Bool} → a ≡ aboveLimit (c .price) → _≡_ {A = CorrectionFaults} (record { missing = true; price = a }) (correctionFaults ms c)
   without-mark h {a} e = rw (le-leb _ _ h, no-mark ms (c .mark) h, no-tick, mod-one (c .price), ← e, or-false a)
 
   pub with-mark : {ticks : List ℕ} → Ticks ms ticks → c .mark < length ms → {a o : Bool} → a ≡ aboveLimit (c .price) → o ≡ not (eqb (c .price % getD ticks (c .mark) 0) 0)
-      → _≡_ {A = CorrectionLook} (record { unnamed = false; price = a || o }) (correctionLook ms c)
+      → _≡_ {A = CorrectionFaults} (record { missing = false; price = a || o }) (correctionFaults ms c)
   with-mark t h e f = rw (lt-leb _ _ h, e, f, t .ticks .entry (c .mark) h)

@@ -3,15 +3,15 @@ use mathlib.Core.Path.{_≡_, ap, _∙_}
 use native.Mathlib.Omega.{arith}
 use Rattle.numbers.specs.Folds.{some}
 use Rattle.dayfile.specs.Records.{marksIn, correctionsIn, correctionAt}
-use Rattle.checks.specs.Looks.{correctionLook, anyCorrection}
+use Rattle.checks.specs.Faults.{correctionFaults, anyCorrectionFault}
 use Rattle.numbers.proofs.Chain.{at-end}
 use Rattle.numbers.proofs.Searches.{some-start, some-next}
 use borrow.Author.Needs.{needs}
-use Rattle.checks.proofs.corrections.look_at_all.Statement.{statement}
-use Rattle.checks.proofs.corrections.look_at_all.Tie as tie
+use Rattle.checks.proofs.corrections.some_fault.Statement.{statement}
+use Rattle.checks.proofs.corrections.some_fault.Tie as tie
 
 abbrev Inv-loop : tie.InvT-loop
-Inv-loop marks ticks corrections n bad₀ i₀ bad i = (i ≤ n) × (bad ≡ some (λ k. anyCorrection (correctionLook (marksIn marks) (correctionAt (correctionsIn corrections) k))) i)
+Inv-loop marks ticks corrections n bad₀ i₀ bad i = (i ≤ n) × (bad ≡ some (λ k. anyCorrectionFault (correctionFaults (marksIn marks) (correctionAt (correctionsIn corrections) k))) i)
 
 abbrev μ-loop : tie.MeasureT-loop
 μ-loop marks ticks corrections n bad₀ i₀ bad i = n - i
@@ -19,8 +19,8 @@ abbrev μ-loop : tie.MeasureT-loop
 loop-holds : tie.Need-loop-holds Inv-loop μ-loop
 loop-holds c = (search needs, some-start _)
 
-look-requires : tie.Need-look-requires Inv-loop μ-loop
-look-requires c κs = c .before .before .before .before .before .before .pre
+faults-requires : tie.Need-faults-requires Inv-loop μ-loop
+faults-requires c κs = c .before .before .before .before .before .before .pre
 
 add-i : tie.Need-add-i Inv-loop μ-loop
 add-i c = omega arith
@@ -33,17 +33,17 @@ loop-again c =
     let at = c .before .before .before .before .loop in
     let a = c .before .before .before .before .before .before .before .before .args in
     let ms = marksIn (a .marks .now) in
-    (omega arith, some-next (λ k. anyCorrection (correctionLook ms (correctionAt (correctionsIn (a .corrections .now)) k))) (at .i) (at .inv .1) (c .any .ensures ∙ ap anyCorrection (c .before .look .ensures ∙ ap (correctionLook ms) (c .before .before .correction-at .ensures))))
+    (omega arith, some-next (λ k. anyCorrectionFault (correctionFaults ms (correctionAt (correctionsIn (a .corrections .now)) k))) (at .i) (at .inv .1) (c .any-fault .ensures ∙ ap anyCorrectionFault (c .before .faults .ensures ∙ ap (correctionFaults ms) (c .before .before .correction-at .ensures))))
 
 returns : tie.Need-returns Inv-loop μ-loop
 returns c =
     let at = c .before .loop in
     let a = c .before .before .before .before .before .args in
-    let bad = some (λ k. anyCorrection (correctionLook (marksIn (a .marks .now)) (correctionAt (correctionsIn (a .corrections .now)) k))) in
+    let bad = some (λ k. anyCorrectionFault (correctionFaults (marksIn (a .marks .now)) (correctionAt (correctionsIn (a .corrections .now)) k))) in
     at-end bad (at .inv .1) (at .inv .0) (c .loop-test .left) ∙ ap bad (c .before .before .correction-count .ensures)
 
-pub look-at-all-spec : {M : Type 1} → statement M
-look-at-all-spec =
+pub some-fault-spec : {M : Type 1} → statement M
+some-fault-spec =
     tie.close
     (tie.spec
     Inv-loop
@@ -51,7 +51,7 @@ look-at-all-spec =
     (λ c κs. search needs)
     loop-holds
     (λ c κs. search needs)
-    look-requires
+    faults-requires
     (λ c κs. search needs)
     add-i
     loop-less

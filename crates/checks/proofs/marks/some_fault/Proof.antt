@@ -5,17 +5,17 @@ use lib.ListN.{length, length-set}
 use Rattle.numbers.specs.Folds.{some, Holds}
 use Rattle.dayfile.specs.Limits.{fileLimits}
 use Rattle.dayfile.specs.Records.{marksIn, markAt}
-use Rattle.checks.specs.Looks.{markLook, anyMark, tickAt}
-use Rattle.checks.specs.declared.marks.MarkLook.{MarkLook}
+use Rattle.checks.specs.Faults.{markFaults, anyMarkFault, tickAt}
+use Rattle.checks.specs.declared.marks.MarkFaults.{MarkFaults}
 use Rattle.numbers.proofs.Chain.{at-end}
 use Rattle.numbers.proofs.Held.{holds-none, holds-more}
 use Rattle.numbers.proofs.Searches.{some-start, some-next}
 use borrow.Author.Needs.{needs}
-use Rattle.checks.proofs.marks.look_at_all.Statement.{statement}
-use Rattle.checks.proofs.marks.look_at_all.Tie as tie
+use Rattle.checks.proofs.marks.some_fault.Statement.{statement}
+use Rattle.checks.proofs.marks.some_fault.Tie as tie
 
 abbrev Inv-loop : tie.InvT-loop
-Inv-loop marks ticks₀ n bad₀ i₀ ticks bad i = ((i ≤ n) × (length ticks ≡ fileLimits .marks)) × (bad ≡ some (λ k. anyMark (markLook (markAt (marksIn marks) k))) i) × Holds 0 (tickAt (marksIn marks)) i ticks
+Inv-loop marks ticks₀ n bad₀ i₀ ticks bad i = ((i ≤ n) × (length ticks ≡ fileLimits .marks)) × (bad ≡ some (λ k. anyMarkFault (markFaults (markAt (marksIn marks) k))) i) × Holds 0 (tickAt (marksIn marks)) i ticks
 
 abbrev μ-loop : tie.MeasureT-loop
 μ-loop marks ticks₀ n bad₀ i₀ ticks bad i = n - i
@@ -39,11 +39,11 @@ loop-again : tie.Need-loop-again Inv-loop μ-loop
 loop-again c =
     let at = c .before .before .before .before .loop in
     let ms = marksIn (c .before .before .before .before .before .before .before .args .marks .now) in
-    let l = c .before .look .ensures ∙ ap markLook (c .before .before .mark-at .ensures) in
+    let l = c .before .faults .ensures ∙ ap markFaults (c .before .before .mark-at .ensures) in
     let h : at .i < length (at .ticks) = omega (arith, element-write-ticks c, at .inv .0 .1) in (
       (omega arith, simp length-set (at .inv .0 .1)),
-      some-next (λ k. anyMark (markLook (markAt ms k))) (at .i) (at .inv .1) (c .any .ensures ∙ ap anyMark l),
-      holds-more h (ap (λ (x : MarkLook). x .tick) l) (at .inv .2),
+      some-next (λ k. anyMarkFault (markFaults (markAt ms k))) (at .i) (at .inv .1) (c .any-fault .ensures ∙ ap anyMarkFault l),
+      holds-more h (ap (λ (x : MarkFaults). x .tick) l) (at .inv .2),
     )
 
 returns : tie.Need-returns Inv-loop μ-loop
@@ -51,13 +51,13 @@ returns c =
     let at = c .before .loop in
     let s = c .before .before .before .before in
     let q = c .before .before .mark-count .ensures in
-    let bad = some (λ k. anyMark (markLook (markAt (marksIn (s .args .marks .now)) k))) in (
+    let bad = some (λ k. anyMarkFault (markFaults (markAt (marksIn (s .args .marks .now)) k))) in (
       at-end bad (at .inv .1) (at .inv .0 .0) (c .loop-test .left) ∙ ap bad q,
       record { few = s .pre .0; ticks = record { entry = λ m h. at .inv .2 .entry m (omega (arith, q, h, c .loop-test .left)) } },
     )
 
-pub look-at-all-spec : {M : Type 1} → statement M
-look-at-all-spec =
+pub some-fault-spec : {M : Type 1} → statement M
+some-fault-spec =
     tie.close
     (tie.spec
     Inv-loop

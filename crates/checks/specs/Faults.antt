@@ -1,4 +1,4 @@
--- What the code looks at, record by record. No statement about a file rests on this.
+-- What the code finds wrong with each record by itself, and how it goes from record to record. No statement about a file rests on this.
 use mathlib.Core.Path.{_≡_}
 use Prim.Native.Nat.{ℕ, zero, suc, _+_, _*_, _%_, _≤_}
 use mathlib.Core.Bool.{Bool, false, cond, not, _||_}
@@ -20,30 +20,30 @@ use Rattle.dayfile.specs.declared.records.Correction.{Correction}
 use Rattle.dayfile.specs.declared.records.Position.{Position}
 use Rattle.dayfile.specs.declared.records.RawPosition.{RawPosition}
 use Rattle.checks.specs.Table.{tickOf}
-use Rattle.checks.specs.Marks.{badCode, badDate, highMark, offMark}
-use Rattle.checks.specs.Corrections.{badPrice, numberPair, clashPair}
-use Rattle.checks.specs.Positions.{badLots}
-use Rattle.checks.specs.declared.marks.MarkLook.{MarkLook}
+use Rattle.checks.specs.Marks.{noMark, badCode, badDate, highMark, offMark, markCheck, MarkCode, MarkDate, MarkLimit, MarkTick}
+use Rattle.checks.specs.Corrections.{badPrice, numberPair, clashPair, correctionCheck, CorrectionMark, CorrectionPrice}
+use Rattle.checks.specs.Positions.{badLots, positionCheck, PositionMark, PositionLots}
+use Rattle.checks.specs.declared.marks.MarkFaults.{MarkFaults}
 use Rattle.checks.specs.declared.marks.MarkFindings.{MarkFindings}
-use Rattle.checks.specs.declared.corrections.CorrectionLook.{CorrectionLook}
+use Rattle.checks.specs.declared.corrections.CorrectionFaults.{CorrectionFaults}
 use Rattle.checks.specs.declared.corrections.CorrectionFindings.{CorrectionFindings}
-use Rattle.checks.specs.declared.positions.PositionLook.{PositionLook}
+use Rattle.checks.specs.declared.positions.PositionFaults.{PositionFaults}
 use Rattle.checks.specs.declared.positions.PositionFindings.{PositionFindings}
 
 -- ---- what is wrong with one record
 
-abbrev pub markLook : Mark → MarkLook
-markLook m = record { code = badCode m; date = badDate m; high = highMark m; off = offMark m; tick = tickOf (m .code) }
+abbrev pub markFaults : Mark → MarkFaults
+markFaults m = record { code = badCode m; date = badDate m; high = highMark m; off = offMark m; tick = tickOf (m .code) }
 
-abbrev pub correctionLook : List Mark → Correction → CorrectionLook
-correctionLook ms c = record { unnamed = leb (length ms) (c .mark); price = badPrice (markAt ms (c .mark)) (c .price) }
+abbrev pub correctionFaults : List Mark → Correction → CorrectionFaults
+correctionFaults ms c = record { missing = noMark ms (c .mark); price = badPrice (markAt ms (c .mark)) (c .price) }
 
-abbrev pub positionLook : List Mark → Position → PositionLook
-positionLook ms p = record { unnamed = leb (length ms) (p .mark); lots = badLots (p .lots) }
+abbrev pub positionFaults : List Mark → Position → PositionFaults
+positionFaults ms p = record { missing = noMark ms (p .mark); lots = badLots (p .lots) }
 
 -- a mark of a product
-abbrev pub lookBy : Product → Mark → MarkLook
-lookBy q m =
+abbrev pub faultsBy : Product → Mark → MarkFaults
+faultsBy q m =
     record {
       code = false;
       date = not (hasMonth q (m .month)) || ltb yearLimit (m .year);
@@ -53,59 +53,55 @@ lookBy q m =
     }
 
 -- a position as its bytes have it, given how many marks there are
-abbrev pub rawLook : ℕ → RawPosition → PositionLook
-rawLook n w =
+abbrev pub rawFaults : ℕ → RawPosition → PositionFaults
+rawFaults n w =
     let moved = (w .lots + lotsLimit) % 4_294_967_296 in
-    record { unnamed = leb n (w .mark); lots = eqb moved lotsLimit || ltb (2 * lotsLimit) moved }
+    record { missing = leb n (w .mark); lots = eqb moved lotsLimit || ltb (2 * lotsLimit) moved }
 
 -- whether anything is
-abbrev pub anyMark : MarkLook → Bool
-anyMark l = l .code || l .date || l .high || l .off
+abbrev pub anyMarkFault : MarkFaults → Bool
+anyMarkFault l = l .code || l .date || l .high || l .off
 
-abbrev pub anyCorrection : CorrectionLook → Bool
-anyCorrection l = l .unnamed || l .price
+abbrev pub anyCorrectionFault : CorrectionFaults → Bool
+anyCorrectionFault l = l .missing || l .price
 
-abbrev pub anyPosition : PositionLook → Bool
-anyPosition l = l .unnamed || l .lots
+abbrev pub anyPositionFault : PositionFaults → Bool
+anyPositionFault l = l .missing || l .lots
 
 -- ---- the first of n records with each fault
 
 abbrev pub markFindings : List Mark → ℕ → MarkFindings
 markFindings ms n =
     record {
-      code = first (λ i. badCode (markAt ms i)) n;
-      date = first (λ i. badDate (markAt ms i)) n;
-      high = first (λ i. highMark (markAt ms i)) n;
-      off = first (λ i. offMark (markAt ms i)) n;
+      code = first (markCheck ms MarkCode .test) n;
+      date = first (markCheck ms MarkDate .test) n;
+      high = first (markCheck ms MarkLimit .test) n;
+      off = first (markCheck ms MarkTick .test) n;
     }
 
 abbrev pub correctionFindings : List Mark → List Correction → ℕ → CorrectionFindings
 correctionFindings ms cs n =
-    record {
-      unnamed = first (λ i. leb (length ms) (correctionAt cs i .mark)) n;
-      price = first (λ i. badPrice (markAt ms (correctionAt cs i .mark)) (correctionAt cs i .price)) n;
-    }
+    record { missing = first (correctionCheck ms cs CorrectionMark .test) n; price = first (correctionCheck ms cs CorrectionPrice .test) n }
 
 abbrev pub positionFindings : List Mark → List Position → ℕ → PositionFindings
-positionFindings ms ps n =
-    record { unnamed = first (λ i. leb (length ms) (positionAt ps i .mark)) n; lots = first (λ i. badLots (positionAt ps i .lots)) n }
+positionFindings ms ps n = record { missing = first (positionCheck ms ps PositionMark .test) n; lots = first (positionCheck ms ps PositionLots .test) n }
 
 -- one record more
 abbrev pub also : Found → Bool → ℕ → Found
 also o b i = orElse o (cond b (At i) Nothing)
 
-pub record WithMark (f : MarkFindings) (l : MarkLook) (i : ℕ) (r : MarkFindings) : Type 0 where
+pub record WithMark (f : MarkFindings) (l : MarkFaults) (i : ℕ) (r : MarkFindings) : Type 0 where
   pub code : r .code ≡ also (f .code) (l .code) i
   pub date : r .date ≡ also (f .date) (l .date) i
   pub high : r .high ≡ also (f .high) (l .high) i
   pub off : r .off ≡ also (f .off) (l .off) i
 
-pub record WithCorrection (f : CorrectionFindings) (l : CorrectionLook) (i : ℕ) (r : CorrectionFindings) : Type 0 where
-  pub unnamed : r .unnamed ≡ also (f .unnamed) (l .unnamed) i
+pub record WithCorrection (f : CorrectionFindings) (l : CorrectionFaults) (i : ℕ) (r : CorrectionFindings) : Type 0 where
+  pub missing : r .missing ≡ also (f .missing) (l .missing) i
   pub price : r .price ≡ also (f .price) (l .price) i
 
-pub record WithPosition (f : PositionFindings) (l : PositionLook) (i : ℕ) (r : PositionFindings) : Type 0 where
-  pub unnamed : r .unnamed ≡ also (f .unnamed) (l .unnamed) i
+pub record WithPosition (f : PositionFindings) (l : PositionFaults) (i : ℕ) (r : PositionFindings) : Type 0 where
+  pub missing : r .missing ≡ also (f .missing) (l .missing) i
   pub lots : r .lots ≡ also (f .lots) (l .lots) i
 
 -- the checks one after the other, by what was found
@@ -113,10 +109,10 @@ abbrev pub markDecision : MarkFindings → Found → Decision
 markDecision f repeated = orFound (orFound (orFound (orFound (orFound Unmet 4 (f .code)) 5 (f .date)) 6 (f .high)) 7 (f .off)) 8 repeated
 
 abbrev pub correctionDecision : CorrectionFindings → Found → Decision
-correctionDecision f clash = orFound (orFound (orFound Unmet 9 (f .unnamed)) 10 (f .price)) 11 clash
+correctionDecision f clash = orFound (orFound (orFound Unmet 9 (f .missing)) 10 (f .price)) 11 clash
 
 abbrev pub positionDecision : PositionFindings → Decision
-positionDecision f = orFound (orFound Unmet 12 (f .unnamed)) 13 (f .lots)
+positionDecision f = orFound (orFound Unmet 12 (f .missing)) 13 (f .lots)
 
 -- ---- arrays
 

@@ -3,16 +3,16 @@ use mathlib.Core.Path.{_≡_, ap, _∙_}
 use native.Mathlib.Omega.{arith}
 use Rattle.numbers.specs.Folds.{some}
 use Rattle.dayfile.specs.Records.{marksIn, positionsIn, positionAt}
-use Rattle.checks.specs.Looks.{positionLook, anyPosition}
+use Rattle.checks.specs.Faults.{positionFaults, anyPositionFault}
 use Rattle.numbers.proofs.Chain.{at-end}
 use Rattle.numbers.proofs.Searches.{some-start, some-next}
-use Rattle.checks.proofs.RawLots.{raw-looked}
+use Rattle.checks.proofs.RawLots.{raw-faults}
 use borrow.Author.Needs.{needs}
-use Rattle.checks.proofs.positions.look_at_all.Statement.{statement}
-use Rattle.checks.proofs.positions.look_at_all.Tie as tie
+use Rattle.checks.proofs.positions.some_fault.Statement.{statement}
+use Rattle.checks.proofs.positions.some_fault.Tie as tie
 
 abbrev Inv-loop : tie.InvT-loop
-Inv-loop marks positions m n bad₀ i₀ bad i = (i ≤ n) × (bad ≡ some (λ k. anyPosition (positionLook (marksIn marks) (positionAt (positionsIn positions) k))) i)
+Inv-loop marks positions m n bad₀ i₀ bad i = (i ≤ n) × (bad ≡ some (λ k. anyPositionFault (positionFaults (marksIn marks) (positionAt (positionsIn positions) k))) i)
 
 abbrev μ-loop : tie.MeasureT-loop
 μ-loop marks positions m n bad₀ i₀ bad i = n - i
@@ -31,17 +31,17 @@ loop-again c =
     let at = c .before .before .before .before .loop in
     let a = c .before .before .before .before .before .before .before .before .before .before .args in
     let ms = marksIn (a .marks .now) in
-    (omega arith, some-next (λ k. anyPosition (positionLook ms (positionAt (positionsIn (a .positions .now)) k))) (at .i) (at .inv .1) (c .any .ensures ∙ ap anyPosition (raw-looked ms (a .positions .now) (at .i) (c .before .before .before .before .before .before .narrow .ensures ∙ c .before .before .before .before .before .before .before .mark-count .ensures) (c .before .before .raw-position-at .ensures) (search needs) (c .before .look .ensures))))
+    (omega arith, some-next (λ k. anyPositionFault (positionFaults ms (positionAt (positionsIn (a .positions .now)) k))) (at .i) (at .inv .1) (c .any-fault .ensures ∙ ap anyPositionFault (raw-faults ms (a .positions .now) (at .i) (c .before .before .before .before .before .before .narrow .ensures ∙ c .before .before .before .before .before .before .before .mark-count .ensures) (c .before .before .raw-position-at .ensures) (search needs) (c .before .faults .ensures))))
 
 returns : tie.Need-returns Inv-loop μ-loop
 returns c =
     let at = c .before .loop in
     let a = c .before .before .before .before .before .before .before .args in
-    let bad = some (λ k. anyPosition (positionLook (marksIn (a .marks .now)) (positionAt (positionsIn (a .positions .now)) k))) in
+    let bad = some (λ k. anyPositionFault (positionFaults (marksIn (a .marks .now)) (positionAt (positionsIn (a .positions .now)) k))) in
     at-end bad (at .inv .1) (at .inv .0) (c .loop-test .left) ∙ ap bad (c .before .before .position-count .ensures)
 
-pub look-at-all-spec : {M : Type 1} → statement M
-look-at-all-spec =
+pub some-fault-spec : {M : Type 1} → statement M
+some-fault-spec =
     tie.close
     (tie.spec
     Inv-loop
