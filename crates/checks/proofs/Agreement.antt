@@ -137,7 +137,7 @@ of-positions ms ps PositionLots = next here
 
 -- ---- lists that stand in no file
 
-many : (a m b n : ℕ) → Tells (ltb a m || ltb b n) ((a < m) ⊎ (b < n))
+pub many : (a m b n : ℕ) → Tells (ltb a m || ltb b n) ((a < m) ⊎ (b < n))
 many a m b n = tells-or (ltb a m) (ltb b n) (tells-lt a m) (tells-lt b n)
 
 pub mark-lists-agree : (l : Limits) (ms : List Mark) → Agree (markListChecks l ms)

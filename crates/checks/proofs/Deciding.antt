@@ -4,7 +4,7 @@ use mathlib.Core.Bool.{Bool, true, false, _||_}
 use mathlib.Core.List.{List}
 use Prim.Native.Nat.{ℕ, _+_, _<_}
 use lib.ListN.{length}
-use Rattle.numbers.specs.Folds.{repeating, first, some, isSome}
+use Rattle.numbers.specs.Folds.{repeating, first, isSome}
 use Rattle.numbers.specs.Checks.{Checks, Check, only, _before_, decisionOf, findingOf}
 use Rattle.numbers.specs.declared.Found.{Found}
 use Rattle.numbers.specs.declared.Found.the-variants.{Nothing}
@@ -21,7 +21,7 @@ use Rattle.dayfile.specs.declared.records.Position.{Position}
 use Rattle.checks.specs.Marks.{contractPair, markCheck, MarkCheck, MarkCode, MarkDate, MarkLimit, MarkTick, MarkRepeated, markChecks}
 use Rattle.checks.specs.Corrections.{clashPair, correctionCheck, CorrectionCheck, CorrectionMark, CorrectionPrice, CorrectionClash, correctionChecks, tooManyCorrections, correctionsJudged, resentOf}
 use Rattle.checks.specs.Positions.{positionCheck, PositionCheck, PositionMark, PositionLots, positionChecks}
-use Rattle.checks.specs.Faults.{markFaults, correctionFaults, positionFaults, anyMarkFault, anyCorrectionFault, anyPositionFault, markFindings, correctionFindings, positionFindings, WithMark, WithCorrection, WithPosition, markDecision, correctionDecision, positionDecision}
+use Rattle.checks.specs.Faults.{markFaults, correctionFaults, positionFaults, anyMarkFault, anyCorrectionFault, anyPositionFault, someMarkFault, someCorrectionFault, somePositionFault, markFindings, correctionFindings, positionFindings, WithMark, WithCorrection, WithPosition, markDecision, correctionDecision, positionDecision}
 use Rattle.checks.specs.declared.marks.MarkFaults.{MarkFaults}
 use Rattle.checks.specs.declared.marks.MarkFindings.{MarkFindings}
 use Rattle.checks.specs.declared.corrections.CorrectionsJudged.{CorrectionsJudged}
@@ -92,7 +92,7 @@ positions-decided ms ps p e = e ∙ rw p (decision-by-steps (positionChecks ms p
 
 -- ---- nothing is wrong
 
-module _ (ms : List Mark) (none : some (λ i. anyMarkFault (markFaults (markAt ms i))) (length ms) ≡ false) where
+module _ (ms : List Mark) (none : someMarkFault ms ≡ false) where
   mark-clear : (i : ℕ) → i < length ms → anyMarkFault (markFaults (markAt ms i)) ≡ false
   mark-clear i h = some-clear (λ i. anyMarkFault (markFaults (markAt ms i))) (length ms) i none h
 
@@ -106,7 +106,7 @@ module _ (ms : List Mark) (none : some (λ i. anyMarkFault (markFaults (markAt m
       clear MarkTick = clear-first _ _ (λ i h. let l = markFaults (markAt ms i) in or-right (l .code || l .date || l .high) _ (mark-clear i h))
       clear MarkRepeated = alone
 
-module _ (ms : List Mark) (cs : List Correction) (none : some (λ i. anyCorrectionFault (correctionFaults ms (correctionAt cs i))) (length cs) ≡ false) where
+module _ (ms : List Mark) (cs : List Correction) (none : someCorrectionFault ms cs ≡ false) where
   correction-clear : (i : ℕ) → i < length cs → anyCorrectionFault (correctionFaults ms (correctionAt cs i)) ≡ false
   correction-clear i h = some-clear (λ i. anyCorrectionFault (correctionFaults ms (correctionAt cs i))) (length cs) i none h
 
@@ -118,7 +118,7 @@ module _ (ms : List Mark) (cs : List Correction) (none : some (λ i. anyCorrecti
       clear CorrectionPrice = clear-first _ _ (λ i h. or-right (correctionFaults ms (correctionAt cs i) .missing) _ (correction-clear i h))
       clear CorrectionClash = apart
 
-module _ (ms : List Mark) (ps : List Position) (none : some (λ i. anyPositionFault (positionFaults ms (positionAt ps i))) (length ps) ≡ false) where
+module _ (ms : List Mark) (ps : List Position) (none : somePositionFault ms ps ≡ false) where
   position-clear : (i : ℕ) → i < length ps → anyPositionFault (positionFaults ms (positionAt ps i)) ≡ false
   position-clear i h = some-clear (λ i. anyPositionFault (positionFaults ms (positionAt ps i))) (length ps) i none h
 

@@ -1,24 +1,22 @@
 -- What the code looks at in one record is what its tests say.
-use mathlib.Core.Path.{_≡_, refl, sym, ap, _∙_}
+use mathlib.Core.Path.{_≡_, refl}
 use mathlib.Core.Bool.{Bool, true, false, not, _||_, or-false}
 use mathlib.Core.List.{List, []}
 use Prim.Native.Nat.{ℕ, _%_, _≤_, _<_}
 use native.Mathlib.Nat.{mod-one}
-use native.Mathlib.Omega.{arith}
-use lib.Dec.{leb, ltb, eqb}
+use lib.Dec.{ltb, eqb}
 use lib.ListN.{length, getD, List·getD-eq-default}
 use borrow.Author.Tests.{le-leb, lt-leb}
 use Rattle.products.specs.Products.{find, findIn, products, sameCode}
 use Rattle.products.specs.declared.table.Found.{Found}
 use Rattle.products.specs.declared.table.Found.the-variants.{At, Missing}
-use Rattle.dayfile.specs.Limits.{fileLimits, yearLimit}
+use Rattle.dayfile.specs.Limits.{yearLimit}
 use Rattle.dayfile.specs.Records.{markOf, markAt}
 use Rattle.dayfile.specs.declared.records.Mark.{Mark}
 use Rattle.dayfile.specs.declared.records.Correction.{Correction}
 use Rattle.checks.specs.Table.{aboveLimit, listed, listedIn, quoted, quotedIn, tickOf, tickIn}
-use Rattle.checks.specs.Marks.{highMark, offTick}
-use Rattle.checks.specs.Corrections.{badPrice}
-use Rattle.checks.specs.Faults.{markFaults, faultsBy, correctionFaults, tickAt, Ticks}
+use Rattle.checks.specs.Marks.{highMark}
+use Rattle.checks.specs.Faults.{markFaults, faultsBy, correctionFaults, Ticks}
 use Rattle.checks.specs.declared.marks.MarkFaults.{MarkFaults}
 use Rattle.checks.specs.declared.corrections.CorrectionFaults.{CorrectionFaults}
 

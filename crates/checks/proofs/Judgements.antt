@@ -1,15 +1,14 @@
 -- From the parts of a judgement to the whole.
-use mathlib.Core.Path.{_≡_, refl, sym, ap, _∙_}
+use mathlib.Core.Path.{_≡_, sym, ap, _∙_}
 use mathlib.Core.List.{List}
 use Prim.Native.Nat.{ℕ}
 use Rattle.numbers.specs.Order.{orLater}
 use Rattle.numbers.specs.Checks.{_before_, decisionOf}
 use Rattle.numbers.specs.declared.deciding.Decision.{Decision}
-use Rattle.numbers.specs.declared.deciding.Decision.the-variants.{Met, Unmet}
 use Rattle.numbers.proofs.Checks.{decision-before}
 use Rattle.dayfile.specs.Limits.{fileLimits}
 use Rattle.dayfile.specs.Records.{Lists, correctionsIn, listsOf}
-use Rattle.dayfile.specs.Layout.{countsOf, markBytes, correctionBytes, positionBytes, listsOfFile}
+use Rattle.dayfile.specs.Layout.{markBytes, correctionBytes, positionBytes, listsOfFile}
 use Rattle.dayfile.specs.Opening.{headerChecks, openedOf}
 use Rattle.dayfile.specs.Steps.{Small}
 use Rattle.dayfile.specs.declared.file.DayFile.{DayFile}
@@ -20,7 +19,7 @@ use Rattle.dayfile.proofs.Refusals.{refused-decides, opened-decides}
 use Rattle.checks.specs.Marks.{markChecks}
 use Rattle.checks.specs.Corrections.{correctionChecks, resentOf}
 use Rattle.checks.specs.Positions.{positionChecks}
-use Rattle.checks.specs.Judging.{recordChecks, fileChecks, judgedBy, judgedOf}
+use Rattle.checks.specs.Judging.{recordChecks, judgedBy, judgedOf}
 use Rattle.checks.specs.declared.judging.Judged.{Judged}
 use Rattle.checks.specs.declared.judging.Judged.the-variants.{Refused}
 

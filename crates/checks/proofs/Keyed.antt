@@ -7,7 +7,7 @@ use native.Mathlib.Omega.{arith}
 use lib.Dec.{eqb}
 use lib.ListN.{length, drop}
 use Rattle.numbers.specs.Bytes.{Bytes, part, joined, u32At}
-use Rattle.numbers.specs.Folds.{repeating, first, last, front}
+use Rattle.numbers.specs.Folds.{repeating, first, front}
 use Rattle.numbers.specs.declared.Found.{Found}
 use Rattle.numbers.proofs.Bytes.{part-bytes, joined-same}
 use Rattle.numbers.proofs.Last.{last-same}

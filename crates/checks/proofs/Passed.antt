@@ -9,7 +9,6 @@ use lib.IntN.{ℤ, pos, negsuc, negℤ, natAbs}
 use lib.Signed.{ltZ}
 use borrow.Author.Tests.{leb-false, ltb-false}
 use Rattle.numbers.specs.Integers.{isZero}
-use Rattle.numbers.specs.Order.{orLater}
 use Rattle.numbers.specs.Checks.{_before_, decisionOf}
 use Rattle.numbers.specs.declared.deciding.Decision.the-variants.{Unmet}
 use Rattle.numbers.proofs.Truth.{or-left, or-right}

@@ -4,18 +4,14 @@ use mathlib.Core.Bool.{Bool, true, false, _||_}
 use mathlib.Core.List.{List}
 use Prim.Native.Nat.{ℕ, suc, _+_, _-_, _%_, _<_}
 use native.Mathlib.Omega.{arith}
-use lib.Dec.{ltb, eqb, leb}
+use lib.Dec.{ltb, eqb}
 use lib.ListN.{length}
-use lib.IntN.{ℤ, pos, negsuc, negℤ}
-use lib.Signed.{ltZ}
+use lib.IntN.{pos, negsuc}
 use borrow.Author.Tests.{ltb-true, ltb-false, eqb-true, eqb-false, lt-ltb, le-ltb, eq-eqb, ne-eqb}
 use Rattle.numbers.specs.Bytes.{signed}
-use Rattle.numbers.specs.Integers.{isZero}
-use Rattle.dayfile.specs.Limits.{lotsLimit}
 use Rattle.dayfile.specs.Records.{positionsIn, positionAt, rawPositionsIn, rawPositionAt}
 use Rattle.dayfile.proofs.Fields.{signedPosition, as-signed-position}
 use Rattle.dayfile.specs.declared.records.RawPosition.{RawPosition}
-use Rattle.dayfile.specs.declared.records.Position.{Position}
 use Rattle.dayfile.specs.declared.records.Mark.{Mark}
 use Rattle.checks.specs.Positions.{badLots}
 use Rattle.checks.specs.Faults.{rawFaults, positionFaults}

@@ -1,17 +1,18 @@
 -- What the checks answer is what their conditions in words say, in both directions and with the index: a file or a list is refused with k at i
 -- exactly where the condition of check k is the first that holds, at i first, and passes exactly where none holds.
 use mathlib.Core.Path.{_≡_, refl, sym, ap, _∙_}
-use mathlib.Core.List.{List, [], _∷_, map}
-use mathlib.Core.Logic.{_↔_}
+use mathlib.Core.List.{List}
+use mathlib.Core.Logic.{_⊎_, _↔_}
 use Prim.Native.Nat.{ℕ, _≤_, _<_}
 use native.Mathlib.Omega.{arith}
 use lib.ListN.{length}
-use borrow.Author.Tests.{le-ltb}
+use borrow.Author.Tests.{lt-ltb, le-ltb}
 use Rattle.numbers.specs.Order.{orLater}
 use Rattle.numbers.specs.Bytes.{u32At}
-use Rattle.numbers.specs.Checks.{_before_, numberOf, Refuses, Passes, decisionOf}
+use Rattle.numbers.specs.Checks.{_before_, Refuses, Passes, decisionOf}
 use Rattle.numbers.specs.declared.deciding.Decision.{Decision}
 use Rattle.numbers.specs.declared.deciding.Decision.the-variants.{Met, Unmet}
+use Rattle.numbers.proofs.Truth.{told}
 use Rattle.numbers.proofs.Checks.{refuses-exactly, passes-exactly, decision-before}
 use Rattle.dayfile.specs.Limits.{Limits}
 use Rattle.dayfile.specs.Layout.{countsOf, listsOfFile}
@@ -29,8 +30,8 @@ use Rattle.checks.specs.Corrections.{CorrectionCheck, correctionCheck, c
 use Rattle.checks.specs.Positions.{PositionCheck, positionCheck, positionChecks, tooManyPositions, positionListChecks}
 use Rattle.checks.specs.Judging.{recordChecks, fileChecks, judgedBy, judgedOf}
 use Rattle.checks.specs.declared.judging.Judged.the-variants.{Sound, Refused}
-use Rattle.checks.proofs.Agreement.{marks-agree, corrections-agree, positions-agree, mark-lists-agree, correction-lists-agree, position-lists-agree, file-agrees}
-use Rattle.checks.proofs.Deciding.{not-many, not-many-corrections}
+use Rattle.checks.proofs.Agreement.{marks-agree, corrections-agree, positions-agree, mark-lists-agree, correction-lists-agree, position-lists-agree, file-agrees, many}
+use Rattle.checks.proofs.Deciding.{too-many, not-many, too-many-corrections, not-many-corrections}
 use Rattle.checks.proofs.Passed.{passed-parts, mark-passes, correction-passes, position-passes}
 
 -- ---- a file, by `judge`
@@ -92,6 +93,10 @@ module _ (l : Limits) (ms : List Mark) where
   marks-within : length ms ≤ l .marks → decisionOf (markListChecks l ms) ≡ decisionOf (markChecks ms)
   marks-within h = sym (not-many (tooManyMarks l ms) (markChecks ms) (le-ltb (l .marks) (length ms) h) refl)
 
+  -- a longer one is refused with 2, whatever stands in it
+  pub marks-above : l .marks < length ms → decisionOf (markListChecks l ms) ≡ Met 2 0
+  marks-above h = sym (too-many (tooManyMarks l ms) (markChecks ms) (lt-ltb (l .marks) (length ms) h))
+
 module _ (l : Limits) (ms : List Mark) (cs : List Correction) where
   pub corrections-refused : {k i : ℕ} → (correctionsJudged l ms cs .decision ≡ Met k i) ↔ Refuses (correctionListChecks l ms cs) k i
   unfolding correctionsJudged
@@ -104,6 +109,9 @@ module _ (l : Limits) (ms : List Mark) (cs : List Correction) where
   corrections-within : length ms ≤ l .marks → length cs ≤ l .corrections → record { decision = decisionOf (correctionChecks ms cs); resent = resentOf cs } ≡ correctionsJudged l ms cs
   corrections-within h k = not-many-corrections l ms cs (rw (le-ltb (l .marks) (length ms) h, le-ltb (l .corrections) (length cs) k)) refl refl
 
+  pub corrections-above : (l .marks < length ms) ⊎ (l .corrections < length cs) → correctionsJudged l ms cs ≡ record { decision = Met 2 0; resent = 0 }
+  corrections-above h = sym (too-many-corrections l ms cs (told _ (many (l .marks) (length ms) (l .corrections) (length cs)) h))
+
 module _ (l : Limits) (ms : List Mark) (ps : List Position) where
   pub positions-refused : {k i : ℕ} → (decisionOf (positionListChecks l ms ps) ≡ Met k i) ↔ Refuses (positionListChecks l ms ps) k i
   positions-refused = refuses-exactly (positionListChecks l ms ps) (position-lists-agree l ms ps)
@@ -115,12 +123,8 @@ module _ (l : Limits) (ms : List Mark) (ps : List Position) where
   positions-within h k =
       sym (not-many (tooManyPositions l ms ps) (positionChecks ms ps) (rw (le-ltb (l .marks) (length ms) h, le-ltb (l .positions) (length ps) k)) refl)
 
--- their numbers, in their order
-pub list-numbers : (l : Limits) (ms : List Mark) (cs : List Correction) (ps : List Position)
-    → (map (numberOf (markListChecks l ms)) (markListChecks l ms .order) ≡ 2 ∷ 4 ∷ 5 ∷ 6 ∷ 7 ∷ 8 ∷ [])
-    × (map (numberOf (correctionListChecks l ms cs)) (correctionListChecks l ms cs .order) ≡ 2 ∷ 9 ∷ 10 ∷ 11 ∷ [])
-    × (map (numberOf (positionListChecks l ms ps)) (positionListChecks l ms ps .order) ≡ 2 ∷ 12 ∷ 13 ∷ [])
-list-numbers l ms cs ps = (refl, refl, refl)
+  pub positions-above : (l .marks < length ms) ⊎ (l .positions < length ps) → decisionOf (positionListChecks l ms ps) ≡ Met 2 0
+  positions-above h = sym (too-many (tooManyPositions l ms ps) (positionChecks ms ps) (told _ (many (l .marks) (length ms) (l .positions) (length ps)) h))
 
 -- Of the lists of a file that opens, the three calls together say what `judge` says of the file.
 pub judged-by-lists : (l : Limits) (f : List ℕ) → openedOf l f ≡ File (countsOf f)

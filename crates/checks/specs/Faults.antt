@@ -5,7 +5,7 @@ use mathlib.Core.Bool.{Bool, false, cond, not, _||_}
 use mathlib.Core.List.{List}
 use lib.Dec.{leb, ltb, eqb}
 use lib.ListN.{length}
-use Rattle.numbers.specs.Folds.{orElse, first, last, Holds}
+use Rattle.numbers.specs.Folds.{orElse, first, last, some, Holds}
 use Rattle.numbers.specs.Order.{orFound}
 use Rattle.numbers.specs.declared.Found.{Found}
 use Rattle.numbers.specs.declared.Found.the-variants.{At, Nothing}
@@ -67,6 +67,16 @@ anyCorrectionFault l = l .missing || l .price
 
 abbrev pub anyPositionFault : PositionFaults → Bool
 anyPositionFault l = l .missing || l .lots
+
+-- and with any record of a list
+abbrev pub someMarkFault : List Mark → Bool
+someMarkFault ms = some (λ i. anyMarkFault (markFaults (markAt ms i))) (length ms)
+
+abbrev pub someCorrectionFault : List Mark → List Correction → Bool
+someCorrectionFault ms cs = some (λ i. anyCorrectionFault (correctionFaults ms (correctionAt cs i))) (length cs)
+
+abbrev pub somePositionFault : List Mark → List Position → Bool
+somePositionFault ms ps = some (λ i. anyPositionFault (positionFaults ms (positionAt ps i))) (length ps)
 
 -- ---- the first of n records with each fault
 

@@ -16,12 +16,11 @@ use products::off_tick;
 ghost use mathlib.Core.Path.{_≡_};
 ghost use Prim.Native.Nat.{_≤_};
 ghost use lib.ListN.{length};
-ghost use Rattle.numbers.specs.Folds.{some};
 ghost use Rattle.numbers.specs.Checks.{decisionOf};
 ghost use Rattle.dayfile.specs.Limits.{fileLimits};
-ghost use Rattle.dayfile.specs.Records.{marksIn, correctionsIn, correctionAt};
+ghost use Rattle.dayfile.specs.Records.{marksIn, correctionsIn};
 ghost use Rattle.checks.specs.Corrections.{correctionChecks, correctionsJudged, resentOf};
-ghost use Rattle.checks.specs.Faults.{correctionFaults, anyCorrectionFault, correctionFindings, WithCorrection, correctionDecision, Ticks};
+ghost use Rattle.checks.specs.Faults.{correctionFaults, anyCorrectionFault, someCorrectionFault, correctionFindings, WithCorrection, correctionDecision, Ticks};
 
 // What is wrong with a correction by itself.
 pub struct CorrectionFaults {
@@ -58,7 +57,7 @@ fn any_fault(l: CorrectionFaults) -> bool
 // Whether anything is wrong with some correction by itself.
 fn some_fault(marks: &[u8], ticks: &[u32; DayFile::MAX_MARKS], corrections: &[u8]) -> bool
     requires { ⌜ Ticks (marksIn (now marks)) (now ticks) ⌝ }
-    ensures { λ r. ⌜ r ≡ some (λ i. anyCorrectionFault (correctionFaults (marksIn (now (marks .entry))) (correctionAt (correctionsIn (now (corrections .entry))) i))) (length (correctionsIn (now (corrections .entry)))) ⌝ }
+    ensures { λ r. ⌜ r ≡ someCorrectionFault (marksIn (now (marks .entry))) (correctionsIn (now (corrections .entry))) ⌝ }
 {
     let n = correction_count(corrections);
     let mut bad = false;
@@ -94,7 +93,8 @@ fn find_first(
     corrections: &[u8],
 ) -> CorrectionFindings
     requires { ⌜ Ticks (marksIn (now marks)) (now ticks) ⌝ }
-    ensures { λ r. ⌜ r ≡ correctionFindings (marksIn (now (marks .entry))) (correctionsIn (now (corrections .entry))) (length (correctionsIn (now (corrections .entry)))) ⌝ }
+    ensures { λ r. ⌜ r ≡ correctionFindings (marksIn (now (marks .entry))) (correctionsIn (now (corrections .entry)))
+        (length (correctionsIn (now (corrections .entry)))) ⌝ }
 {
     let n = correction_count(corrections);
     let mut f = CorrectionFindings {
@@ -134,7 +134,8 @@ pub(crate) fn decide_corrections(
     corrections: &[u8],
 ) -> CorrectionsJudged
     requires { ⌜ Ticks (marksIn (now marks)) (now ticks) × (length (correctionsIn (now corrections)) ≤ fileLimits .corrections) ⌝ }
-    ensures { λ r. ⌜ (r .decision ≡ decisionOf (correctionChecks (marksIn (now (marks .entry))) (correctionsIn (now (corrections .entry))))) × (r .resent ≡ resentOf (correctionsIn (now (corrections .entry)))) ⌝ }
+    ensures { λ r. ⌜ (r .decision ≡ decisionOf (correctionChecks (marksIn (now (marks .entry))) (correctionsIn (now (corrections .entry)))))
+        × (r .resent ≡ resentOf (correctionsIn (now (corrections .entry)))) ⌝ }
 {
     let bad = some_fault(marks, ticks, corrections);
     let mut numbers = [0u16; DayFile::MAX_CORRECTIONS];

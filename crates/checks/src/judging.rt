@@ -24,7 +24,8 @@ pub enum Judged {
 // The checks over the records, section by section.
 fn judge_records(marks: &[u8], corrections: &[u8], positions: &[u8], counts: DayFile) -> Judged
     requires { ⌜ Small (listsOf (now marks) (now corrections) (now positions)) ⌝ }
-    ensures { λ r. ⌜ r ≡ judgedBy counts (resentOf (correctionsIn (now (corrections .entry)))) (decisionOf (recordChecks (listsOf (now (marks .entry)) (now (corrections .entry)) (now (positions .entry))))) ⌝ }
+    ensures { λ r. ⌜ r ≡ judgedBy counts (resentOf (correctionsIn (now (corrections .entry))))
+        (decisionOf (recordChecks (listsOf (now (marks .entry)) (now (corrections .entry)) (now (positions .entry))))) ⌝ }
 {
     let mut ticks = [0u32; DayFile::MAX_MARKS];
     let of_marks = decide_marks(marks, &mut ticks);

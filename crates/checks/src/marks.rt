@@ -16,13 +16,12 @@ use products::off_tick;
 ghost use mathlib.Core.Path.{_≡_};
 ghost use Prim.Native.Nat.{_≤_};
 ghost use lib.ListN.{length};
-ghost use Rattle.numbers.specs.Folds.{some};
 ghost use Rattle.numbers.specs.Checks.{decisionOf};
 ghost use Rattle.dayfile.specs.Limits.{fileLimits};
-ghost use Rattle.dayfile.specs.Records.{marksIn, markAt};
+ghost use Rattle.dayfile.specs.Records.{marksIn};
 ghost use Rattle.checks.specs.Table.{aboveLimit};
 ghost use Rattle.checks.specs.Marks.{highMark, markChecks, markListChecks};
-ghost use Rattle.checks.specs.Faults.{markFaults, faultsBy, anyMarkFault, markFindings, WithMark, markDecision, Ticks};
+ghost use Rattle.checks.specs.Faults.{markFaults, faultsBy, anyMarkFault, someMarkFault, markFindings, WithMark, markDecision, Ticks};
 
 const YEAR_LIMIT: u8 = 99;
 
@@ -91,7 +90,7 @@ fn any_fault(l: MarkFaults) -> bool
 // Whether anything is wrong with some mark by itself. Writes the ticks of all marks.
 pub(crate) fn some_fault(marks: &[u8], ticks: &mut [u32; DayFile::MAX_MARKS]) -> bool
     requires { ⌜ (length (marksIn (now marks)) ≤ fileLimits .marks) × (length (now ticks) ≡ fileLimits .marks) ⌝ }
-    ensures { λ r. ⌜ (r ≡ some (λ i. anyMarkFault (markFaults (markAt (marksIn (now (marks .entry))) i))) (length (marksIn (now (marks .entry))))) × Ticks (marksIn (now (marks .entry))) (now (ticks .exit)) ⌝ }
+    ensures { λ r. ⌜ (r ≡ someMarkFault (marksIn (now (marks .entry)))) × Ticks (marksIn (now (marks .entry))) (now (ticks .exit)) ⌝ }
 {
     let n = mark_count(marks);
     let mut bad = false;
@@ -167,7 +166,8 @@ fn decide(f: MarkFindings, repeated: Found) -> Decision
 // What the checks over marks within the file's limit decide. Writes the ticks of all marks.
 pub(crate) fn decide_marks(marks: &[u8], ticks: &mut [u32; DayFile::MAX_MARKS]) -> Decision
     requires { ⌜ (length (marksIn (now marks)) ≤ fileLimits .marks) × (length (now ticks) ≡ fileLimits .marks) ⌝ }
-    ensures { λ r. ⌜ (r ≡ decisionOf (markChecks (marksIn (now (marks .entry))))) × Ticks (marksIn (now (marks .entry))) (now (ticks .exit)) ⌝ }
+    ensures { λ r. ⌜ (r ≡ decisionOf (markChecks (marksIn (now (marks .entry)))))
+        × Ticks (marksIn (now (marks .entry))) (now (ticks .exit)) ⌝ }
 {
     let bad = some_fault(marks, ticks);
     let repeated = first_repeated(marks, Mark::SIZE, Key::Four);

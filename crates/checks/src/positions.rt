@@ -10,12 +10,11 @@ use numbers::Found;
 ghost use mathlib.Core.Path.{_≡_};
 ghost use Prim.Native.Nat.{_≤_};
 ghost use lib.ListN.{length};
-ghost use Rattle.numbers.specs.Folds.{some};
 ghost use Rattle.numbers.specs.Checks.{decisionOf};
 ghost use Rattle.dayfile.specs.Limits.{fileLimits};
-ghost use Rattle.dayfile.specs.Records.{marksIn, positionsIn, positionAt};
+ghost use Rattle.dayfile.specs.Records.{marksIn, positionsIn};
 ghost use Rattle.checks.specs.Positions.{positionChecks, positionListChecks};
-ghost use Rattle.checks.specs.Faults.{rawFaults, positionFaults, anyPositionFault, positionFindings, WithPosition, positionDecision};
+ghost use Rattle.checks.specs.Faults.{rawFaults, anyPositionFault, somePositionFault, positionFindings, WithPosition, positionDecision};
 
 // The most lots that a position may have, bought or sold.
 const LOTS_LIMIT: u32 = 1_000_000;
@@ -57,7 +56,7 @@ fn narrow(n: usize) -> u32
 // Whether anything is wrong with some position by itself. All are looked at, in numbers of 32 bits: so the compiler takes four at a time.
 fn some_fault(marks: &[u8], positions: &[u8]) -> bool
     requires { ⌜ length (marksIn (now marks)) ≤ fileLimits .marks ⌝ }
-    ensures { λ r. ⌜ r ≡ some (λ i. anyPositionFault (positionFaults (marksIn (now (marks .entry))) (positionAt (positionsIn (now (positions .entry))) i))) (length (positionsIn (now (positions .entry)))) ⌝ }
+    ensures { λ r. ⌜ r ≡ somePositionFault (marksIn (now (marks .entry))) (positionsIn (now (positions .entry))) ⌝ }
 {
     let m = narrow(mark_count(marks));
     let n = position_count(positions);
@@ -91,7 +90,8 @@ fn with_position(f: PositionFindings, l: PositionFaults, i: usize) -> PositionFi
 // The first position with each fault, by a search among all.
 fn find_first(marks: &[u8], positions: &[u8]) -> PositionFindings
     requires { ⌜ length (marksIn (now marks)) ≤ fileLimits .marks ⌝ }
-    ensures { λ r. ⌜ r ≡ positionFindings (marksIn (now (marks .entry))) (positionsIn (now (positions .entry))) (length (positionsIn (now (positions .entry)))) ⌝ }
+    ensures { λ r. ⌜ r ≡ positionFindings (marksIn (now (marks .entry))) (positionsIn (now (positions .entry)))
+        (length (positionsIn (now (positions .entry)))) ⌝ }
 {
     let m = narrow(mark_count(marks));
     let n = position_count(positions);

@@ -13,10 +13,10 @@ use Rattle.numbers.specs.Folds.{first}
 use Rattle.numbers.specs.Order.{pick}
 use Rattle.numbers.specs.Checks.{decisionOf}
 use Rattle.numbers.specs.declared.Found.the-variants.{At, Nothing}
-use Rattle.numbers.specs.declared.deciding.Decision.the-variants.{Met, Unmet}
+use Rattle.numbers.specs.declared.deciding.Decision.the-variants.{Unmet}
 use Rattle.dayfile.specs.Limits.{Limits, fileLimits}
 use Rattle.dayfile.specs.Layout.{countsOf, headerSize, correctionsStart, positionsStart, lengthOf}
-use Rattle.dayfile.specs.Opening.{headerChecks, withinLimits, asLaidOut, openedBy, openedOf}
+use Rattle.dayfile.specs.Opening.{withinLimits, asLaidOut, openedBy, openedOf}
 use Rattle.dayfile.specs.Steps.{LaidOut}
 use Rattle.dayfile.specs.declared.file.DayFile.{DayFile}
 use Rattle.dayfile.specs.declared.file.Opened.the-variants.{File, Refused}

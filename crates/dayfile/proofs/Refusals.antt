@@ -1,6 +1,6 @@
 -- `open_file` refuses a file exactly by the first of checks 1 to 3 whose condition holds.
 use mathlib.Core.Path.{_≡_, refl, ap}
-use mathlib.Core.Bool.{not, _&&_}
+use mathlib.Core.Bool.{_&&_}
 use mathlib.Core.List.{List}
 use mathlib.Core.Logic.{_↔_}
 use Prim.Native.Nat.{ℕ}
@@ -15,7 +15,7 @@ use Rattle.numbers.proofs.Truth.{tells-as, tells-not, tells-either, tells-lt, t
 use Rattle.numbers.proofs.Checks.{Agree, refuses-exactly, passes-exactly}
 use Rattle.dayfile.specs.Limits.{Limits}
 use Rattle.dayfile.specs.Layout.{headerSize, countsOf, correctionsStart, positionsStart, lengthOf}
-use Rattle.dayfile.specs.Opening.{HeaderCheck, Short, Counts, Layout, headerChecks, openedBy, openedOf}
+use Rattle.dayfile.specs.Opening.{Short, Counts, Layout, headerChecks, openedBy, openedOf}
 use Rattle.dayfile.specs.declared.file.DayFile.{DayFile}
 use Rattle.dayfile.specs.declared.file.Opened.the-variants.{File, Refused}
 

@@ -2,7 +2,7 @@
 use mathlib.Core.Path.{_≡_, refl, sym, ap, _∙_}
 use mathlib.Core.Bool.{Bool, true, false, cond, _&&_}
 use mathlib.Core.List.{List, [], _∷_, _++_, map, foldl, List·Memᴰ}
-use mathlib.Core.Logic.{_⊎_, inl, inr, ⊎-elim, _↔_}
+use mathlib.Core.Logic.{inl, inr, _↔_}
 use Prim.Native.Nat.{ℕ, _≤_, _<_}
 use native.Mathlib.Nat.{le-trans}
 use native.Mathlib.Omega.{arith}
@@ -49,7 +49,7 @@ agree-only c t n = t
 -- ---- checks that pass
 
 module _ (cs : Checks) where
-  pub clear : decisionOf cs ≡ Unmet → (c : cs .Name) → List·Memᴰ c (cs .order) → findingOf cs c ≡ Nothing
+  clear : decisionOf cs ≡ Unmet → (c : cs .Name) → List·Memᴰ c (cs .order) → findingOf cs c ≡ Nothing
   unfolding decisionOf
   clear p c m = none-of (numberOf cs) (findingOf cs) (cs .order) p c m
 

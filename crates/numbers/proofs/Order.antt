@@ -1,6 +1,6 @@
 -- The first condition in an order that holds anywhere decides.
 use mathlib.Core.Path.{_≡_, refl, sym, ap, _∙_}
-use mathlib.Core.Bool.{Bool, true, false, not, cond}
+use mathlib.Core.Bool.{Bool, true, false, cond}
 use mathlib.Core.List.{List, [], _∷_, _++_, List·Memᴰ, List·Memᴰ·head, List·Memᴰ·tail, List·Memᴰ·not-nil}
 use mathlib.Core.Logic.{_↔_, ⊎-elim}
 use Prim.Native.Nat.{ℕ, zero, suc, _<_}
@@ -9,10 +9,9 @@ use native.Mathlib.Omega.{arith}
 use borrow.Author.Tests.{ltb-true, ltb-false}
 use lib.Dec.{ltb}
 use Rattle.numbers.specs.Folds.{first, orElse}
-use Rattle.numbers.specs.Order.{Decides, Clear, pick, orLater, orFound, decision}
+use Rattle.numbers.specs.Order.{Decides, Clear, pick, decision}
 use Rattle.numbers.specs.declared.Found.{Found}
 use Rattle.numbers.specs.declared.Found.the-variants.{At, Nothing}
-use Rattle.numbers.specs.declared.deciding.Decision.{Decision}
 use Rattle.numbers.specs.declared.deciding.Decision.the-variants.{Met, Unmet}
 use Rattle.numbers.proofs.Truth.{Tells}
 
@@ -27,11 +26,6 @@ pub data Finds (P : ℕ → Type 0) (o : Found) : Type 0 where
 pub finds-whole : (b : Bool) {A : Type 0} → Tells b A → Finds (λ i. (i ≡ 0) × A) (cond b (At 0) Nothing)
 finds-whole true t = here 0 refl (refl, t .yes refl) (λ j h x. not-suc-le-zero h)
 finds-whole false t = nowhere refl (λ j x. t .no refl (x .1))
-
--- the same by a test that there is no fault
-pub finds-unless : (b : Bool) {A : Type 0} → Tells (not b) A → Finds (λ i. (i ≡ 0) × A) (cond b Nothing (At 0))
-finds-unless true t = nowhere refl (λ j x. t .no refl (x .1))
-finds-unless false t = here 0 refl (refl, t .yes refl) (λ j h x. not-suc-le-zero h)
 
 -- the search below n by a test
 module _ {A : ℕ → Type 0} (t : ℕ → Bool) (tells : (i : ℕ) → Tells (t i) (A i)) where

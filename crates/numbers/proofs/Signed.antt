@@ -52,10 +52,5 @@ plain n h = toZ-pos w64 n h
 pub back : (z : ℤ) → mag z < 2 ^ 63 → toZ w64 (ofZ w64 z) ≡ z
 back z h = toZ-ofZ w64 z (record { sfits = h })
 
--- what `z == 0` tests: the bits
-pub zero-bits : (z : ℤ) → mag z < 2 ^ 63 → eqb (ofZ w64 z) 0 ≡ isZero z
-zero-bits (pos n) h = refl
-zero-bits (negsuc n) h = ne-eqb (2 ^ 64 - suc n) 0 (λ e. omega arith)
-
 pub back-small : (z : ℤ) → natAbs z < 2 ^ 63 → toZ w64 (ofZ w64 z) ≡ z
 back-small z h = toZ-ofZ w64 z (fits z h)

@@ -20,6 +20,13 @@ unfolding u32At
 no-key Four = refl
 no-key Eight = refl
 
+-- two keys of eight bytes are one where both halves are
+pub eight-same : (r s : List ℕ) → Bytes r → Bytes s → (keyOf Eight r ≡ keyOf Eight s) ↔ ((u32At r 0 ≡ u32At s 0) × (u32At r 4 ≡ u32At s 4))
+eight-same r s a b =
+    let m = u32-small r 0 a in
+    let n = u32-small s 0 b in
+    ((λ e. (omega (arith, e), omega (arith, e))), (λ h. omega (arith, h .0, h .1)))
+
 module _ (k : Key) (size : ℕ) (s : List ℕ) where
   -- the key of record i, from its place
   pub key-here : (i : ℕ) → i < length s / size → keyAt k size s i ≡ keyOf k (part (size * i) size s)

@@ -25,7 +25,7 @@ use Rattle.numbers.specs.Checks.{numberOf}
 use Rattle.settlement.specs.Conditions.{settlementChecks, TurnedAway, NotTurnedAway}
 use Rattle.settlement.specs.Prices.{finalOf, FinalPrice, AllIn}
 use Rattle.checks.specs.Corrections.{resentOf}
-use Rattle.settlement.specs.Settling.{keepOf, positionIn, markIn, previousIn, finalIn, Answer, settled, refused, totals, planOf, answerOf, amountsAfter}
+use Rattle.settlement.specs.Settling.{keepOf, positionIn, markIn, previousIn, finalIn, Answer, settled, refused, totals, answerOf, amountsAfter}
 use Rattle.settlement.specs.Prices.FinalPrice.{corrected, uncorrected}
 use Rattle.settlement.specs.Resend.{SentAgain, correctionRecords, Resent}
 use Rattle.settlement.specs.Resend.SentAgain.{end, kept, copy}

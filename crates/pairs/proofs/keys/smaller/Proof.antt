@@ -1,6 +1,5 @@
 use native.Mathlib.Omega.{arith}
 use Rattle.pairs.proofs.Least.{least-first, least-second}
-use borrow.Author.Needs.{needs}
 use Rattle.pairs.proofs.keys.smaller.Statement.{statement}
 use Rattle.pairs.proofs.keys.smaller.Tie as tie
 
