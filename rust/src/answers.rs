@@ -14,6 +14,19 @@ impl Refusal {
     }
 }
 
+/// What is said of one mark of a day file.
+#[derive(Clone, Copy, Debug, PartialEq, Eq)]
+pub struct MarkPrices {
+    /// The previous price, in units of 0.0001.
+    pub previous: u32,
+    /// The final price.
+    pub final_price: u32,
+    /// The number of the correction that decides the final price; none where today's price stands.
+    pub corrected_by: Option<u32>,
+    /// The change in value of one contract from the previous to the final price, in cents.
+    pub change: i64,
+}
+
 /// The answer to an accepted day file.
 #[derive(Clone, Copy, Debug, PartialEq, Eq)]
 pub struct Settled {

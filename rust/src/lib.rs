@@ -1,5 +1,5 @@
 //! Safe functions over the proved library: the value, tick value and bracket of one contract, the settlement of a day file,
-//! and its sheet. The answers are those of document 01.
+//! what is said of its marks, and its sheet. The answers are those of document 01.
 //!
 //! The other modules are for the tests and the benchmark, are not proved, and use nothing of the library: `products` and
 //! `plain` are an independent build of the same job, `hashed` is the same with hash tables in place of pair loops, `sheet`
@@ -16,7 +16,7 @@ pub mod records;
 pub mod sheet;
 mod sys;
 
-pub use answers::{Refusal, Settled};
+pub use answers::{MarkPrices, Refusal, Settled};
 
 /// The value of one contract in cents. The price is in units of 0.0001.
 pub fn value(code: [u8; 2], price: u32) -> Result<u64, Refusal> {
@@ -41,6 +41,14 @@ pub fn bracket(code: [u8; 2], price: u32) -> Result<u64, Refusal> {
 pub fn settle(file: &[u8], amounts: &mut [i64]) -> Result<Settled, Refusal> {
     // SAFETY: each pointer comes with the length of its slice, and the slices cannot overlap.
     unsafe { sys::citronreef_settle(file.as_ptr(), file.len(), amounts.as_mut_ptr(), amounts.len()) }.answer()
+}
+
+/// The prices of the mark with this index of a day file that passes checks 1 to 13, the correction that decides, and the change
+/// in value of one contract. A file that does not pass is refused as `settle` refuses it; a mark that it does not have is refused
+/// with 12, and the index is the one asked for.
+pub fn mark(file: &[u8], mark: usize) -> Result<MarkPrices, Refusal> {
+    // SAFETY: the pointer comes with the length of its slice.
+    unsafe { sys::citronreef_mark(file.as_ptr(), file.len(), mark) }.answer()
 }
 
 /// No sheet is longer than this, in bytes.

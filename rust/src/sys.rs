@@ -1,6 +1,6 @@
 //! The functions of the static library, as include/citronreef.h declares them. A slice is a pointer and then a length.
 
-use crate::answers::{Refusal, Settled};
+use crate::answers::{MarkPrices, Refusal, Settled};
 
 #[repr(C)]
 pub struct Quote {
@@ -18,11 +18,23 @@ pub struct Outcome {
     resent: u64,
 }
 
+#[repr(C)]
+pub struct MarkOutcome {
+    refused: u64,
+    index: u64,
+    previous: u64,
+    final_price: u64,
+    corrected: u64,
+    number: u64,
+    change: i64,
+}
+
 extern "C" {
     pub fn citronreef_value(first: u8, second: u8, price: u32) -> Quote;
     pub fn citronreef_tick_value(first: u8, second: u8, price: u32) -> Quote;
     pub fn citronreef_bracket(first: u8, second: u8, price: u32) -> Quote;
     pub fn citronreef_settle(file: *const u8, file_length: usize, amounts: *mut i64, places: usize) -> Outcome;
+    pub fn citronreef_mark(file: *const u8, file_length: usize, mark: usize) -> MarkOutcome;
     pub fn citronreef_sheet(
         file: *const u8,
         file_length: usize,
@@ -50,6 +62,20 @@ impl Outcome {
                 aud: self.aud,
                 nzd: self.nzd,
                 resent: self.resent as usize,
+            }),
+            number => Err(Refusal { number: number as u32, index: self.index as usize }),
+        }
+    }
+}
+
+impl MarkOutcome {
+    pub fn answer(self) -> Result<MarkPrices, Refusal> {
+        match self.refused {
+            0 => Ok(MarkPrices {
+                previous: self.previous as u32,
+                final_price: self.final_price as u32,
+                corrected_by: (self.corrected == 1).then_some(self.number as u32),
+                change: self.change,
             }),
             number => Err(Refusal { number: number as u32, index: self.index as usize }),
         }

@@ -23,6 +23,12 @@ static void print_quote(citronreef_quote q)
     printf("%" PRIu64 " %" PRIu64 "\n", q.refused, q.number);
 }
 
+static void print_mark(citronreef_mark_prices m)
+{
+    printf("%" PRIu64 " %" PRIu64 " %" PRIu64 " %" PRIu64 " %" PRIu64 " %" PRIu64 " %" PRId64 "\n",
+           m.refused, m.index, m.previous, m.final_price, m.corrected, m.number, m.change);
+}
+
 static uint8_t out[CITRONREEF_SHEET_SIZE];
 
 int main(void)
@@ -34,6 +40,8 @@ int main(void)
     print_quote(citronreef_value('I', 'R', 950000));
     print_quote(citronreef_tick_value('I', 'R', 1000000));
     print_quote(citronreef_bracket('Y', 'T', 940000));
+    print_mark(citronreef_mark(file, sizeof file, 0));
+    print_mark(citronreef_mark(file, sizeof file, 1));
     printf("%zu\n", citronreef_sheet(file, sizeof file, amounts, 3, out, sizeof out - 1));
     fwrite(out, 1, citronreef_sheet(file, sizeof file, amounts, 3, out, sizeof out), stdout);
     return 0;

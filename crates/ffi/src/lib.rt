@@ -1,15 +1,19 @@
 // The functions that C and Rust call: numbers and slices in, one struct of numbers out. include/citronreef.h declares them.
 ghost use mathlib.Core.Path.{_≡_};
+ghost use mathlib.Core.Bool.{cond};
 ghost use lib.ListN.{length};
 ghost use Rattle.pricing.specs.Calls.{said, valueOf, tickValueOf, bracketOf};
 ghost use Rattle.report.specs.Sheet.{sheetWithin, amountsWithin};
 ghost use Rattle.dayfile.specs.Limits.{fileLimits};
 ghost use Rattle.settlement.specs.Settling.{answerOf, amountsAfter};
 ghost use Rattle.settlement.specs.Settling.{said as saidOfDay};
+ghost use Rattle.settlement.specs.OneMark.{markAnswerOf};
+ghost use Rattle.settlement.specs.OneMark.{said as saidOfMark};
 ghost use Rattle.text.specs.Writing.{Wrote};
-ghost use Rattle.ffi.specs.Numbers.{quoteOf, outcomeOf};
+ghost use Rattle.ffi.specs.Numbers.{quoteOf, outcomeOf, markOutcomeOf};
 use pricing::Priced;
 use products::Code;
+use settlement::MarkPrices;
 use settlement::Settlement;
 
 // The answer of a call on one contract: the number given, with a refused of 0; or the number of the check that refuses it.
@@ -71,6 +75,63 @@ fn day_numbers(s: Settlement) -> Outcome
     }
 }
 
+// What is said of one mark of a day file. Where it is refused, refused and index say by which check and at which record, and the rest is 0.
+#[repr(C)]
+pub struct MarkOutcome {
+    pub refused: u64,
+    pub index: u64,
+    pub previous: u64,
+    pub last: u64,
+    pub corrected: u64,
+    pub number: u64,
+    pub change: i64,
+}
+
+// 1 where a correction decides.
+fn one_if(b: bool) -> u64
+    ensures { λ r. ⌜ r ≡ cond b 1 0 ⌝ }
+{
+    if b { 1 } else { 0 }
+}
+
+// Its number, and 0 where none does.
+fn number_if(b: bool, number: u32) -> u64
+    ensures { λ r. ⌜ r ≡ cond b number 0 ⌝ }
+{
+    if b { number as u64 } else { 0 }
+}
+
+fn mark_numbers(p: MarkPrices) -> MarkOutcome
+    ensures { λ r. ⌜ r ≡ markOutcomeOf (saidOfMark p) ⌝ }
+{
+    match p {
+        MarkPrices::Priced {
+            previous,
+            last,
+            corrected,
+            number,
+            change,
+        } => MarkOutcome {
+            refused: 0,
+            index: 0,
+            previous: previous as u64,
+            last: last as u64,
+            corrected: one_if(corrected),
+            number: number_if(corrected, number),
+            change,
+        },
+        MarkPrices::Refused { number, index } => MarkOutcome {
+            refused: number as u64,
+            index: index as u64,
+            previous: 0,
+            last: 0,
+            corrected: 0,
+            number: 0,
+            change: 0,
+        },
+    }
+}
+
 // The value of one contract in cents. The code is its two letters.
 #[no_mangle]
 pub extern "C" fn citronreef_value(first: u8, second: u8, price: u32) -> Quote
@@ -102,6 +163,14 @@ pub extern "C" fn citronreef_settle(file: &[u8], amounts: &mut [i64]) -> Outcome
     ensures written { λ r. ⌜ now (amounts .exit) ≡ amountsAfter fileLimits (now (file .entry)) (now (amounts .entry)) ⌝ }
 {
     day_numbers(settlement::settle(file, amounts))
+}
+
+// The prices of one mark of a day file, the correction that decides, and the change in value of one contract.
+#[no_mangle]
+pub extern "C" fn citronreef_mark(file: &[u8], mark: usize) -> MarkOutcome
+    ensures { λ r. ⌜ r ≡ markOutcomeOf (markAnswerOf fileLimits (now (file .entry)) mark) ⌝ }
+{
+    mark_numbers(settlement::mark(file, mark))
 }
 
 // Settles a day file into the lent amounts, writes its sheet at the start of `out`, and answers the sheet's length. With room for

@@ -2,7 +2,7 @@
 -- in the terms of specs/, and its argument stands in the file it cites. `answerOf l f places` is the answer to the file f with a slice of so many
 -- places, and `amountsAfter l f a` the slice afterwards that was a before: the contract of `settle` says that its answer and its slice are these,
 -- for the limits `fileLimits`.
-use mathlib.Core.Path.{_≡_, refl, sym, _∙_}
+use mathlib.Core.Path.{_≡_, refl, sym, ap, _∙_}
 use mathlib.Core.List.{List, [], _∷_, _++_, map, List·Memᴰ}
 use mathlib.Core.Logic.{_⊎_, inl, inr, ⊎-elim, _↔_, _≢_}
 use Prim.Native.Nat.{ℕ, suc, _+_, _*_, _-_, _≤_, _<_}
@@ -23,9 +23,10 @@ use Rattle.dayfile.specs.Layout.{countsOf, listsOfFile}
 use Rattle.products.specs.Products.{currencyOf}
 use Rattle.numbers.specs.Checks.{numberOf}
 use Rattle.settlement.specs.Conditions.{settlementChecks, TurnedAway, NotTurnedAway}
-use Rattle.settlement.specs.Prices.{finalOf, FinalPrice, AllIn}
+use Rattle.settlement.specs.Prices.{Latest, latestOf, finalOf, FinalPrice, AllIn}
+use Rattle.settlement.specs.OneMark.{priced, markAnswerOf}
 use Rattle.checks.specs.Corrections.{resentOf}
-use Rattle.settlement.specs.Settling.{keepOf, positionIn, markIn, previousIn, finalIn, Answer, settled, refused, totals, answerOf, amountsAfter}
+use Rattle.settlement.specs.Settling.{amountOf, changeIn, keepOf, positionIn, markIn, previousIn, finalIn, Answer, settled, refused, totals, answerOf, amountsAfter}
 use Rattle.settlement.specs.Prices.FinalPrice.{corrected, uncorrected}
 use Rattle.settlement.specs.Resend.{SentAgain, correctionRecords, Resent}
 use Rattle.settlement.specs.Resend.SentAgain.{end, kept, copy}
@@ -41,6 +42,8 @@ use Rattle.settlement.proofs.Values.{amount-valued}
 use Rattle.numbers.proofs.Signs.{difference-is, keeps-above, keeps-below}
 use Rattle.settlement.proofs.Accepted.{settled-accepted}
 use Rattle.settlement.proofs.Plans.{refused-answer}
+use Rattle.checks.proofs.Passed.{mark-in}
+use Rattle.settlement.proofs.OneMark.{mark-answer}
 use Rattle.settlement.proofs.Slices as slices
 use Rattle.settlement.proofs.Refusals.{refused-exactly, accepted-exactly}
 use Rattle.settlement.proofs.Resending as resending
@@ -125,6 +128,17 @@ module _ (l : Limits) (f : List ℕ) (a : List ℤ) {n k : ℕ} {aud nzd : ℤ} 
       let same : v ≡ w = cc in
       r ∙ rw (same, +ℤ-invr (pos w), *ℤ-zero (positionIn f i .lots))
 
+  -- What is said of the position's mark has the position's two settlement prices, and the amount is lots times the change that it has.
+  pub amount-by-mark : {p q : ℕ} {d : Latest} {z : ℤ} → markAnswerOf l f (positionIn f i .mark) ≡ priced p q d z
+      → (p ≡ previousIn f i) × (q ≡ finalIn f i) × (amount ≡ positionIn f i .lots *ℤ z)
+  unfolding amountOf
+  amount-by-mark {z = z} said =
+      let acc = slices.accepted l f a e in
+      let inside = mark-in (listsOfFile f) (acc .passed) i (rw (slices.counted l f a e) h) in
+      let same = sym (mark-answer l f (positionIn f i .mark) acc inside) ∙ said in
+      let change : changeIn (listsOfFile f) (positionIn f i .mark) ≡ z = cc in
+      (cc, cc, slices.amount-stands l f a e i h ∙ ap (λ x. positionIn f i .lots *ℤ x) change)
+
 -- The file g, which is f with copies of its corrections sent again and is brought into line, is accepted too: N and both totals are those of f,
 -- each amount is the one in the same place for f, and the resent count is that of f plus the copies.
 pub demand-3-resend : (l : Limits) (f g : List ℕ) (copies n k : ℕ) (aud nzd : ℤ) (a b : List ℤ) → Resent f g copies → u32At g 8 ≤ l .corrections → n ≤ length b
@@ -160,6 +174,10 @@ totals-are-sums l f a e = (slices.total-stands l f a e Aud, slices.total-stands 
 -- The final price is the one that document 01 describes.
 pub final-price-is : (ms : List Mark) (cs : List Correction) (m : ℕ) → FinalPrice ms cs m (finalOf ms cs m)
 final-price-is ms cs m = prices.final-price-is ms cs m
+
+-- The correction that decides: the highest-numbered of those that name the mark, and none where none names it.
+pub deciding-is : (cs : List Correction) (m : ℕ) → prices.Latest-is cs m (length cs) (latestOf cs m (length cs))
+deciding-is cs m = prices.latest-is cs m (length cs)
 
 -- In an accepted file:
 module _ (l : Limits) (f : List ℕ) (places : ℕ) {n k : ℕ} {aud nzd : ℤ} (e : answerOf l f places ≡ settled n aud nzd k) where

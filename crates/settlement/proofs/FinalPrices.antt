@@ -19,7 +19,7 @@ use Rattle.numbers.proofs.Searches.{extend}
 use Rattle.settlement.proofs.Corrections.{Apart, one-price}
 
 -- what `latestOf` answers: nothing where none of the first n names the mark, else the highest-numbered that does
-data Latest-is (cs : List Correction) (m n : ℕ) (l : Latest) : Type 0 where
+pub data Latest-is (cs : List Correction) (m n : ℕ) (l : Latest) : Type 0 where
   none : l ≡ Never → ((k : ℕ) → k < n → correctionAt cs k .mark ≢ m) → Latest-is cs m n l
   newest : (k : ℕ) → k < n → correctionAt cs k .mark ≡ m → l ≡ Price (correctionAt cs k .number) (correctionAt cs k .price)
       → ((j : ℕ) → j < n → correctionAt cs j .mark ≡ m → correctionAt cs j .number ≤ correctionAt cs k .number) → Latest-is cs m n l
@@ -48,7 +48,7 @@ module _ (cs : List Correction) (m n : ℕ) where
   next l h true q = replaced l h (eqb-true _ _ q)
   next l h false q = passed-by l h (eqb-false _ _ q)
 
-latest-is : (cs : List Correction) (m n : ℕ) → Latest-is cs m n (latestOf cs m n)
+pub latest-is : (cs : List Correction) (m n : ℕ) → Latest-is cs m n (latestOf cs m n)
 unfolding latestOf
 latest-is cs m zero = none refl (λ k h. absurd (not-suc-le-zero h))
 latest-is cs m (suc n) = next cs m n (latestOf cs m n) (latest-is cs m n) (eqb (correctionAt cs n .mark) m) refl

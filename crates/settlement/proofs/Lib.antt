@@ -13,6 +13,7 @@ pub mod Accepted
 pub mod Plans
 pub mod Totals
 pub mod Shares
+pub mod OneMark
 pub mod Changes
 pub mod Grouping
 pub mod Sizes

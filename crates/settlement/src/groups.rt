@@ -7,6 +7,7 @@ use dayfile::mark_count;
 use pricing::LANES;
 use pricing::worth;
 use pricing::worths;
+use products::Code;
 use products::is_bond;
 use products::same_code;
 ghost use mathlib.Core.Path.{_≡_};
@@ -19,6 +20,7 @@ ghost use Rattle.dayfile.specs.Limits.{fileLimits};
 ghost use Rattle.dayfile.specs.Records.{marksIn, correctionsIn, markAt};
 ghost use Rattle.pricing.specs.Value.{valueCap};
 ghost use Rattle.pricing.specs.Calls.{lanes};
+ghost use Rattle.settlement.specs.Worths.{worthOf};
 ghost use Rattle.settlement.specs.Prices.{finalOf, changeOf};
 ghost use Rattle.settlement.specs.Steps.{blank, changesOf};
 ghost use Rattle.settlement.specs.Groups.{groupSize, alikeIn, Grouped, InFile, Capped, lastOf, lanePrice, lanesChange, setAll, Works};
@@ -147,15 +149,20 @@ fn work_group(
     write_group(g, v, a, done);
 }
 
+// The change in value of one contract between two prices.
+pub(crate) fn change_between(code: Code, last: u32, previous: u32) -> i64
+    ensures { λ r. ⌜ r ≡ pos (worthOf code last) -ℤ pos (worthOf code previous) ⌝ }
+{
+    difference(worth(code, last), worth(code, previous))
+}
+
 // The change in value of one mark.
 fn change(marks: &[u8], finals: &[u32; DayFile::MAX_MARKS], i: usize) -> i64
     requires { ⌜ i < fileLimits .marks ⌝ }
     ensures { λ r. ⌜ r ≡ changeOf (marksIn (now (marks .entry))) (lastOf (now (finals .entry))) i ⌝ }
 {
     let m = mark_at(marks, i);
-    let last = worth(m.code, finals[i]);
-    let previous = worth(m.code, m.previous);
-    difference(last, previous)
+    change_between(m.code, finals[i], m.previous)
 }
 
 // Works the change of a mark that is not done, a bond with others of its product.

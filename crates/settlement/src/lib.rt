@@ -2,10 +2,13 @@
 mod amounts;
 mod cents;
 mod groups;
+mod one_mark;
 mod prices;
 mod settling;
 
 pub use cents::AudCents;
 pub use cents::NzdCents;
+pub use one_mark::MarkPrices;
+pub use one_mark::mark;
 pub use settling::Settlement;
 pub use settling::settle;
