@@ -149,7 +149,8 @@ fn work_group(
     write_group(g, v, a, done);
 }
 
-// The change in value of one contract between two prices.
+// The change in value of one contract between two prices. (`change` has the same two calls for itself, so that the compiler takes them into the
+// loop over the marks.)
 pub(crate) fn change_between(code: Code, last: u32, previous: u32) -> i64
     ensures { λ r. ⌜ r ≡ pos (worthOf code last) -ℤ pos (worthOf code previous) ⌝ }
 {
@@ -162,7 +163,9 @@ fn change(marks: &[u8], finals: &[u32; DayFile::MAX_MARKS], i: usize) -> i64
     ensures { λ r. ⌜ r ≡ changeOf (marksIn (now (marks .entry))) (lastOf (now (finals .entry))) i ⌝ }
 {
     let m = mark_at(marks, i);
-    change_between(m.code, finals[i], m.previous)
+    let last = worth(m.code, finals[i]);
+    let previous = worth(m.code, m.previous);
+    difference(last, previous)
 }
 
 // Works the change of a mark that is not done, a bond with others of its product.

@@ -3,14 +3,19 @@ use Rattle.dayfile.specs.Records.{marksIn}
 use Rattle.numbers.proofs.Signed.{back}
 use Rattle.settlement.specs.Groups.{lastOf}
 use Rattle.settlement.proofs.Changes.{change-by}
+use Rattle.settlement.proofs.Pricing.{by-worth}
 use borrow.Author.Needs.{needs}
 use Rattle.settlement.proofs.groups.change.Statement.{statement}
 use Rattle.settlement.proofs.groups.change.Tie as tie
 
+difference-requires : tie.Need-difference-requires
+difference-requires c κs = (by-worth _ _ (c .before .worth .ensures) .1, by-worth _ _ (c .worth2 .ensures) .1)
+
 returns : tie.Need-returns
 returns c =
-    let a = c .before .before .before .before .args in
-    change-by (marksIn (a .marks .now)) (lastOf (a .finals .now)) (a .i) (back (c .change-between .result) (c .change-between .ok) ∙ c .change-between .ensures) refl refl refl (c .before .before .mark-at .ensures)
+    let a = c .before .before .before .before .before .before .args in
+    change-by (marksIn (a .marks .now)) (lastOf (a .finals .now)) (a .i) (back (c .difference .result) (c .difference .ok) ∙ c .difference .ensures)
+    (by-worth _ _ (c .before .before .worth .ensures) .0) (by-worth _ _ (c .before .worth2 .ensures) .0) refl (c .before .before .before .before .mark-at .ensures)
 
 pub change-spec : {M : Type 1} → statement M
 change-spec =
@@ -20,4 +25,6 @@ change-spec =
     (λ c. search needs)
     (λ c. search needs)
     (λ c κs. search needs)
+    (λ c κs. search needs)
+    difference-requires
     returns)
