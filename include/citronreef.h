@@ -2,7 +2,7 @@
  * Citronreef: value, tick value and bracket of one ASX 24 rate futures contract, the settlement of a day file,
  * what is said of each of its marks, and its sheet.
  *
- * Link with libffi.a, which `rt staticlib ffi` writes to target/staticlib. No function keeps what it is lent, allocates or
+ * Link with libcitronreef.a, which `rt staticlib citronreef` writes to target/staticlib. No function keeps what it is lent, allocates or
  * reads anything but its arguments. Every argument is answered: a call that cannot be met is refused with a check's number, or, for
  * the sheet, answered with 0.
  */

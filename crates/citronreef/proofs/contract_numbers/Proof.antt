@@ -1,0 +1,17 @@
+-- `ffi::contract_numbers` meets its contract: by the two kinds of answer.
+use mathlib.Core.Path.{ap, sym}
+use borrow.Author.Needs.{needs}
+use Rattle.pricing.specs.Calls.{said}
+use Rattle.citronreef.specs.Numbers.{quoteOf}
+use Rattle.citronreef.proofs.contract_numbers.Statement.{statement}
+use Rattle.citronreef.proofs.contract_numbers.Tie as tie
+
+returns : tie.Need-returns
+returns c = sym (ap (λ p. quoteOf (said p)) (c .before .p .given .1))
+
+returns-2 : tie.Need-returns-2
+returns-2 c = sym (ap (λ p. quoteOf (said p)) (c .before .p2 .given .1))
+
+pub contract-numbers-spec : {M : Type 1} → statement M
+contract-numbers-spec =
+    tie.close (tie.spec (λ c. search needs) (λ c. search needs) (λ c. search needs) returns returns-2)

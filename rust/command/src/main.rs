@@ -1,0 +1,3 @@
+mod quoted;
+
+fn main() {}

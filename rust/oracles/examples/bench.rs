@@ -1,0 +1,220 @@
+//! Times the proved library against the same job in Rust: plain pair loops, and hash tables with nothing quadratic.
+//!
+//!   rt check sheet && rt staticlib citronreef && cd rust && cargo build --release --examples && cargo run --release --example bench
+
+use citronreef::records::{Day, MAX_CORRECTIONS, MAX_MARKS, MAX_POSITIONS};
+use citronreef::{settle, tick_value, value, write_sheet, Refusal, Settled, SHEET_SIZE};
+use oracles::days::{day_of, day_of_products};
+use oracles::products::{self, Product, PRICE_LIMIT, PRODUCTS};
+use oracles::random::Random;
+use oracles::sheet::sheet;
+use oracles::{hashed, plain};
+use std::io::Write;
+use std::path::Path;
+use std::process::{Command, Stdio};
+use std::time::Instant;
+
+const RUNS: usize = 301;
+
+type Settle = fn(&[u8], &mut [i64]) -> Result<Settled, Refusal>;
+type Value = fn([u8; 2], u32) -> Result<u64, Refusal>;
+
+/// The same value, of which the compiler knows nothing.
+fn black_box<T>(value: T) -> T {
+    // SAFETY: the value is read once more and the first copy is forgotten, so it is moved.
+    unsafe {
+        let read = std::ptr::read_volatile(&value);
+        std::mem::forget(value);
+        read
+    }
+}
+
+/// The median times of some calls in nanoseconds. Each run makes the calls in turn, so that all meet the same machine.
+fn medians<const K: usize>(mut call: impl FnMut(usize)) -> [f64; K] {
+    let mut times: [Vec<f64>; K] = std::array::from_fn(|_| Vec::with_capacity(RUNS));
+    for _ in 0..RUNS {
+        for (k, times) in times.iter_mut().enumerate() {
+            let start = Instant::now();
+            call(k);
+            times.push(start.elapsed().as_nanos() as f64);
+        }
+    }
+    times.map(|mut times| {
+        times.sort_by(f64::total_cmp);
+        times[RUNS / 2]
+    })
+}
+
+/// Gives each correction a number of its own, so that a pair loop finds no pair and has to look at all of them.
+fn with_distinct_numbers(mut day: Day) -> Day {
+    let count = day.corrections.len() as u32;
+    for (i, correction) in day.corrections.iter_mut().enumerate() {
+        correction.number = 7 * (count - i as u32);
+    }
+    day
+}
+
+/// The times of the three builds on a day, in microseconds: proved, plain, hashed.
+fn settle_times(day: &Day) -> [f64; 3] {
+    let file = day.bytes();
+    let mut amounts = vec![0; MAX_POSITIONS];
+    let builds: [Settle; 3] = [settle, plain::settle, hashed::settle];
+    let nanoseconds = medians(|k| {
+        let answer = builds[k](black_box(&file), black_box(&mut amounts));
+        assert!(answer.is_ok());
+    });
+    nanoseconds.map(|time| time / 1_000.0)
+}
+
+fn print_settle_row(label: &str, [proved, plain, hashed]: [f64; 3]) {
+    let (to_plain, to_hashed) = (proved / plain, proved / hashed);
+    println!("{label:>21} {proved:>9.1} {plain:>9.1} {to_plain:>9.2} {hashed:>9.1} {to_hashed:>9.2}");
+}
+
+/// Gives the corrections numbers whose products with the library's multiplier are these. The multiplier is odd, so it has an inverse.
+fn with_products(mut day: Day, product: impl Fn(u32) -> u32) -> Day {
+    const INVERSE: u32 = 244_002_641;
+    assert_eq!(INVERSE.wrapping_mul(2_654_435_761), 1);
+    for (index, correction) in day.corrections.iter_mut().enumerate() {
+        correction.number = product(index as u32).wrapping_mul(INVERSE);
+    }
+    day
+}
+
+/// All corrections start at one root of the library's tree.
+fn with_one_root(day: Day) -> Day {
+    with_products(day, |index| index * 16_383 % 8_388_608)
+}
+
+/// All start at one root and agree in the first fourteen bits of their walks too, which leaves nine bits to tell 512 numbers apart.
+fn with_long_walks(day: Day) -> Day {
+    with_products(day, |index| index * 16_384)
+}
+
+fn with_equal_corrections(mut day: Day) -> Day {
+    let first = day.corrections[0];
+    day.corrections.fill(first);
+    day
+}
+
+/// Days that are not like the others, of 4,096 positions but for the last.
+fn other_days(random: &mut Random) -> Vec<(&'static str, Day)> {
+    let full = [MAX_MARKS, MAX_CORRECTIONS, MAX_POSITIONS];
+    let of = |random: &mut Random, codes: &[[u8; 2]]| {
+        let products: Vec<Product> = PRODUCTS.iter().filter(|product| codes.contains(&product.code)).copied().collect();
+        with_distinct_numbers(day_of_products(random, &products, full))
+    };
+    vec![
+        ("some resent", day_of_products(random, &PRODUCTS, full)),
+        ("equal corrections", with_equal_corrections(day_of_products(random, &PRODUCTS, full))),
+        ("one root", with_one_root(day_of_products(random, &PRODUCTS, full))),
+        ("long walks", with_long_walks(day_of_products(random, &PRODUCTS, full))),
+        ("bills only", of(random, &[*b"IR", *b"BB"])),
+        ("longest bonds only", of(random, &[*b"XX"])),
+        ("1 mark", with_distinct_numbers(day_of(random, 1, MAX_CORRECTIONS, MAX_POSITIONS))),
+        ("1 mark, uncorrected", day_of(random, 1, 0, MAX_POSITIONS)),
+        ("1 mark, 2 positions", day_of(random, 1, 2, 2)),
+    ]
+}
+
+fn print_settle() {
+    println!("settle: {MAX_MARKS} marks, {MAX_CORRECTIONS} corrections, N positions; microseconds for a file, and ratios of times");
+    println!("{:>21} {:>9} {:>9} {:>9} {:>9} {:>9}", "N", "proved", "plain", "ratio", "hashed", "ratio");
+    let mut random = Random::new(2_463_534_242);
+    let mut last = [0.0; 3];
+    let mut growth = [0.0; 3];
+    for positions in [256, 512, 1_024, 2_048, 4_096] {
+        let times = settle_times(&with_distinct_numbers(day_of(&mut random, MAX_MARKS, MAX_CORRECTIONS, positions)));
+        print_settle_row(&positions.to_string(), times);
+        growth = std::array::from_fn(|i| times[i] / last[i]);
+        last = times;
+    }
+    for (label, day) in other_days(&mut random) {
+        print_settle_row(label, settle_times(&day));
+    }
+    let [proved, plain, hashed] = growth;
+    println!("growth from N = 2048 to 4096: proved {proved:.2}, plain {plain:.2}, hashed {hashed:.2} times\n");
+}
+
+/// The times of a call's two builds, over all listed prices of a product, in nanoseconds: proved, plain.
+fn call_times(builds: [Value; 2], code: [u8; 2], prices: &[u32]) -> [f64; 2] {
+    let pass = |k: usize| prices.iter().filter_map(|&price| builds[k](black_box(code), black_box(price)).ok()).sum::<u64>();
+    medians(|k| {
+        black_box(pass(k));
+    })
+    .map(|time| time / prices.len() as f64)
+}
+
+fn print_values() {
+    println!("nanoseconds for one contract, over all listed prices of a product: value, and tick value");
+    println!("{:>21} {:>9} {:>9} {:>9} {:>9} {:>9} {:>9}", "code", "proved", "plain", "ratio", "proved", "plain", "ratio");
+    for product in &PRODUCTS {
+        let prices: Vec<u32> = (0..=PRICE_LIMIT).step_by(product.tick as usize).collect();
+        let [proved, plain] = call_times([value, products::value], product.code, &prices);
+        let [tick, plain_tick] = call_times([tick_value, products::tick_value], product.code, &prices);
+        let code = String::from_utf8_lossy(&product.code);
+        let (ratio, tick_ratio) = (proved / plain, tick / plain_tick);
+        println!("{code:>21} {proved:>9.1} {plain:>9.1} {ratio:>9.2} {tick:>9.1} {plain_tick:>9.1} {tick_ratio:>9.2}");
+    }
+}
+
+/// The times of the sheet of a day in microseconds: proved, and in plain Rust.
+fn sheet_times(day: &Day) -> [f64; 2] {
+    let file = day.bytes();
+    let mut amounts = vec![0; MAX_POSITIONS];
+    let mut out = vec![0; SHEET_SIZE];
+    let nanoseconds = medians(|k| {
+        let length = match k {
+            0 => write_sheet(black_box(&file), &mut amounts, &mut out),
+            _ => sheet(black_box(&file), &mut amounts).len(),
+        };
+        assert!(black_box(length) > 0);
+    });
+    nanoseconds.map(|time| time / 1_000.0)
+}
+
+/// Runs a program on a file once, and waits until it has printed.
+fn run(program: &Path, file: &[u8]) {
+    let mut child = Command::new(program)
+        .stdin(Stdio::piped())
+        .stdout(Stdio::null())
+        .spawn()
+        .unwrap_or_else(|error| panic!("{}: {error}", program.display()));
+    child.stdin.take().expect("a pipe").write_all(file).expect("the program reads its input");
+    assert!(child.wait().expect("the program ends").success());
+}
+
+/// The times of both sheet programs as processes, in microseconds: proved, and in plain Rust.
+fn process_times(day: &Day) -> [f64; 2] {
+    let root = Path::new(env!("CARGO_MANIFEST_DIR")).ancestors().nth(2).expect("the crate stands in the repository");
+    let programs = [root.join("target/bin/sheet"), root.join("target/rust/release/examples/sheet")];
+    let file = day.bytes();
+    medians(|k| run(&programs[k], &file)).map(|time| time / 1_000.0)
+}
+
+fn print_sheets() {
+    println!("sheet: {MAX_MARKS} marks, {MAX_CORRECTIONS} corrections, N positions; microseconds for the text, and for the whole program");
+    println!("{:>21} {:>9} {:>9} {:>9} {:>9} {:>9} {:>9}", "N", "proved", "plain", "ratio", "program", "plain", "ratio");
+    let mut random = Random::new(362_436_069);
+    for positions in [256, 1_024, 4_096] {
+        let day = with_distinct_numbers(day_of(&mut random, MAX_MARKS, MAX_CORRECTIONS, positions));
+        let [proved, plain] = sheet_times(&day);
+        let [program, plain_program] = process_times(&day);
+        let (to_plain, to_program) = (proved / plain, program / plain_program);
+        println!("{positions:>21} {proved:>9.1} {plain:>9.1} {to_plain:>9.2} {program:>9.1} {plain_program:>9.1} {to_program:>9.2}");
+    }
+    println!();
+}
+
+fn main() {
+    println!(
+        "Each time is the median of {RUNS} runs in one process, in a release build (opt-level 3); the builds take turns."
+    );
+    println!("The amounts slice has {MAX_POSITIONS} places and is not cleared between runs; Rust's builds allocate their tables in each run.");
+    println!(
+        "Numbers of corrections are distinct, so that pair loops look at every pair, except where the row says other.\n"
+    );
+    print_settle();
+    print_sheets();
+    print_values();
+}

@@ -1,0 +1,69 @@
+//! The same job with hash tables in place of pair loops, so that no part of it is quadratic.
+
+use crate::plain;
+use citronreef::records::{Correction, Mark};
+use citronreef::{Refusal, Settled};
+use std::collections::hash_map::Entry;
+use std::collections::{HashMap, HashSet};
+use std::hash::{BuildHasherDefault, Hasher};
+
+/// A quick hash of one number: a product with an odd constant, its high bits folded onto the low ones.
+#[derive(Default)]
+pub struct NumberHasher(u64);
+
+impl Hasher for NumberHasher {
+    fn write(&mut self, bytes: &[u8]) {
+        bytes.iter().for_each(|&byte| self.write_u32(u32::from(byte)));
+    }
+
+    fn write_u32(&mut self, number: u32) {
+        self.0 = (self.0 ^ u64::from(number)).wrapping_mul(0x9E37_79B9_7F4A_7C15);
+    }
+
+    fn finish(&self) -> u64 {
+        self.0 ^ (self.0 >> 32)
+    }
+}
+
+type Quick = BuildHasherDefault<NumberHasher>;
+
+fn contract(mark: &Mark) -> u32 {
+    u32::from_le_bytes([mark.code[0], mark.code[1], mark.month, mark.year])
+}
+
+/// Check 8.
+fn check_contracts(marks: &[Mark]) -> Result<(), Refusal> {
+    let mut seen: HashSet<u32, Quick> = HashSet::with_capacity_and_hasher(marks.len(), Quick::default());
+    match marks.iter().position(|mark| !seen.insert(contract(mark))) {
+        Some(index) => Err(Refusal { number: 8, index }),
+        None => Ok(()),
+    }
+}
+
+/// Check 11, and the resent count of corrections that pass it. Those before the first that clashes agree with the first of
+/// their number, so comparing with that one is enough.
+fn check_numbers(corrections: &[Correction]) -> Result<usize, Refusal> {
+    let mut first: HashMap<u32, &Correction, Quick> = HashMap::with_capacity_and_hasher(corrections.len(), Quick::default());
+    let mut resent = 0;
+    for (index, correction) in corrections.iter().enumerate() {
+        match first.entry(correction.number) {
+            Entry::Occupied(held) if *held.get() != correction => return Err(Refusal { number: 11, index }),
+            Entry::Occupied(_) => resent += 1,
+            Entry::Vacant(free) => {
+                free.insert(correction);
+            }
+        }
+    }
+    Ok(resent)
+}
+
+/// Settles a day file.
+pub fn settle(file: &[u8], amounts: &mut [i64]) -> Result<Settled, Refusal> {
+    let day = plain::read(file)?;
+    let products = plain::check_marks(&day.marks)?;
+    check_contracts(&day.marks)?;
+    plain::check_corrections(&day.corrections, &products)?;
+    let resent = check_numbers(&day.corrections)?;
+    plain::check_positions(&day.positions, day.marks.len(), amounts.len())?;
+    Ok(plain::pay(&day, &products, resent, amounts))
+}

@@ -1,0 +1,11 @@
+//! For the tests and the benchmark: not proved, and using nothing of the proved library but the types of its answers.
+//! `products` and `plain` are an independent build of the same job, `hashed` is the same with hash tables in place of pair loops,
+//! `sheet` prints the answer, `exact` has the exact values, and `days` makes day files.
+
+pub mod days;
+pub mod exact;
+pub mod hashed;
+pub mod plain;
+pub mod products;
+pub mod random;
+pub mod sheet;
