@@ -45,7 +45,7 @@ module _ (f : List ℕ) where
 
   module _ {d : DayFile} (o : openedOf fileLimits f ≡ opened.File d) {m c p : List ℕ} (ms : m ≡ markBytes f d) (cs : c ≡ correctionBytes f d) (ps : p ≡ positionBytes f d) where
     pub opened-small : Small (listsOf m c p)
-    opened-small = rw (ms, cs, ps) (small f d (laid-out f o))
+    opened-small = rw (ms, cs, ps) (small f d (laid-out f o .limited))
 
     pub judged-opened : {r : Judged} → r ≡ judgedBy d (resentOf (correctionsIn c)) (decisionOf (recordChecks (listsOf m c p))) → r ≡ judgedOf fileLimits f
     unfolding judgedOf

@@ -1,4 +1,5 @@
 pub mod Refusals
+pub mod Found
 pub mod Agreement
 pub mod Passed
 mod Deciding

@@ -6,7 +6,7 @@ use mathlib.Core.List.{List}
 use lib.Dec.{leb, ltb, eqb}
 use lib.ListN.{length}
 use Rattle.numbers.specs.Folds.{orElse, first, last, some, Holds}
-use Rattle.numbers.specs.Order.{orFound}
+use Rattle.numbers.specs.Order.{orFound, orWanted}
 use Rattle.numbers.specs.declared.Found.{Found}
 use Rattle.numbers.specs.declared.Found.the-variants.{At, Nothing}
 use Rattle.numbers.specs.declared.deciding.Decision.{Decision}
@@ -123,6 +123,17 @@ correctionDecision f clash = orFound (orFound (orFound Unmet 9 (f .missing)) 10 
 
 abbrev pub positionDecision : PositionFindings → Decision
 positionDecision f = orFound (orFound Unmet 12 (f .missing)) 13 (f .lots)
+
+-- what check k found, among what each found
+abbrev pub markFound : MarkFindings → Found → ℕ → Found
+markFound f repeated k =
+    orWanted (orWanted (orWanted (orWanted (orWanted Nothing (eqb k 4) (f .code)) (eqb k 5) (f .date)) (eqb k 6) (f .high)) (eqb k 7) (f .off)) (eqb k 8) repeated
+
+abbrev pub correctionFound : CorrectionFindings → Found → ℕ → Found
+correctionFound f clash k = orWanted (orWanted (orWanted Nothing (eqb k 9) (f .missing)) (eqb k 10) (f .price)) (eqb k 11) clash
+
+abbrev pub positionFound : PositionFindings → ℕ → Found
+positionFound f k = orWanted (orWanted Nothing (eqb k 12) (f .missing)) (eqb k 13) (f .lots)
 
 -- ---- arrays
 

@@ -16,11 +16,11 @@ use products::off_tick;
 ghost use mathlib.Core.Path.{_≡_};
 ghost use Prim.Native.Nat.{_≤_};
 ghost use lib.ListN.{length};
-ghost use Rattle.numbers.specs.Checks.{decisionOf};
+ghost use Rattle.numbers.specs.Checks.{decisionOf, findingBy};
 ghost use Rattle.dayfile.specs.Limits.{fileLimits};
 ghost use Rattle.dayfile.specs.Records.{marksIn, correctionsIn};
 ghost use Rattle.checks.specs.Corrections.{correctionChecks, correctionsJudged, resentOf};
-ghost use Rattle.checks.specs.Faults.{correctionFaults, anyCorrectionFault, someCorrectionFault, correctionFindings, WithCorrection, correctionDecision, Ticks};
+ghost use Rattle.checks.specs.Faults.{correctionFaults, anyCorrectionFault, someCorrectionFault, correctionFindings, WithCorrection, correctionDecision, correctionFound, Ticks};
 
 // What is wrong with a correction by itself.
 pub struct CorrectionFaults {
@@ -152,6 +152,31 @@ pub(crate) fn decide_corrections(
         decision: Decision::Unmet,
         resent,
     }
+}
+
+// What check k found, among what each found.
+fn found_by(f: CorrectionFindings, clash: Found, k: u32) -> Found
+    ensures { λ r. ⌜ r ≡ correctionFound f clash k ⌝ }
+{
+    let missing = f.missing;
+    let price = f.price;
+    let o = Found::Nothing;
+    let o = o.or_wanted(k == 9, missing);
+    let o = o.or_wanted(k == 10, price);
+    o.or_wanted(k == 11, clash)
+}
+
+// The first correction where the condition of check k holds, of corrections within the file's limit, given the marks.
+pub(crate) fn find_in_corrections(marks: &[u8], corrections: &[u8], k: u32) -> Found
+    requires { ⌜ (length (marksIn (now marks)) ≤ fileLimits .marks) × (length (correctionsIn (now corrections)) ≤ fileLimits .corrections) ⌝ }
+    ensures { λ r. ⌜ r ≡ findingBy (correctionChecks (marksIn (now (marks .entry))) (correctionsIn (now (corrections .entry)))) k ⌝ }
+{
+    let mut ticks = [0u32; DayFile::MAX_MARKS];
+    crate::marks::some_fault(marks, &mut ticks);
+    let mut numbers = [0u16; DayFile::MAX_CORRECTIONS];
+    earlier(corrections, Correction::SIZE, Key::Four, &mut numbers);
+    let clash = first_clash(corrections, &numbers);
+    found_by(find_first(marks, &ticks, corrections), clash, k)
 }
 
 // What the checks decide of a list of corrections, given the marks: 2 where a file may not have as many of either, then 9 to 11. The resent

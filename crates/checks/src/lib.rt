@@ -1,12 +1,14 @@
 // The checks that a day file must pass to be settled: a part for each section, and all of them over a whole file.
 mod clashes;
 mod corrections;
+mod finding;
 mod judging;
 mod marks;
 mod positions;
 
 pub use corrections::CorrectionsJudged;
 pub use corrections::check_corrections;
+pub use finding::find;
 pub use judging::Judged;
 pub use judging::judge;
 pub use marks::check_marks;

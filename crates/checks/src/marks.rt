@@ -16,12 +16,12 @@ use products::off_tick;
 ghost use mathlib.Core.Path.{_≡_};
 ghost use Prim.Native.Nat.{_≤_};
 ghost use lib.ListN.{length};
-ghost use Rattle.numbers.specs.Checks.{decisionOf};
+ghost use Rattle.numbers.specs.Checks.{decisionOf, findingBy};
 ghost use Rattle.dayfile.specs.Limits.{fileLimits};
 ghost use Rattle.dayfile.specs.Records.{marksIn};
 ghost use Rattle.checks.specs.Table.{aboveLimit};
 ghost use Rattle.checks.specs.Marks.{highMark, markChecks, markListChecks};
-ghost use Rattle.checks.specs.Faults.{markFaults, faultsBy, anyMarkFault, someMarkFault, markFindings, WithMark, markDecision, Ticks};
+ghost use Rattle.checks.specs.Faults.{markFaults, faultsBy, anyMarkFault, someMarkFault, markFindings, WithMark, markDecision, markFound, Ticks};
 
 const YEAR_LIMIT: u8 = 99;
 
@@ -175,6 +175,34 @@ pub(crate) fn decide_marks(marks: &[u8], ticks: &mut [u32; DayFile::MAX_MARKS]) 
         return decide(find_first(marks), repeated);
     }
     Decision::Unmet
+}
+
+// What check k found, among what each found.
+fn found_by(f: MarkFindings, repeated: Found, k: u32) -> Found
+    ensures { λ r. ⌜ r ≡ markFound f repeated k ⌝ }
+{
+    let code = f.code;
+    let date = f.date;
+    let high = f.high;
+    let off = f.off;
+    let o = Found::Nothing;
+    let o = o.or_wanted(k == 4, code);
+    let o = o.or_wanted(k == 5, date);
+    let o = o.or_wanted(k == 6, high);
+    let o = o.or_wanted(k == 7, off);
+    o.or_wanted(k == 8, repeated)
+}
+
+// The first mark where the condition of check k holds, of marks within the file's limit.
+pub(crate) fn find_in_marks(marks: &[u8], k: u32) -> Found
+    requires { ⌜ length (marksIn (now marks)) ≤ fileLimits .marks ⌝ }
+    ensures { λ r. ⌜ r ≡ findingBy (markChecks (marksIn (now (marks .entry)))) k ⌝ }
+{
+    found_by(
+        find_first(marks),
+        first_repeated(marks, Mark::SIZE, Key::Four),
+        k,
+    )
 }
 
 // What the checks decide of a list of marks: 2 where a file may not have as many, then 4 to 8.

@@ -10,11 +10,11 @@ use numbers::Found;
 ghost use mathlib.Core.Path.{_≡_};
 ghost use Prim.Native.Nat.{_≤_};
 ghost use lib.ListN.{length};
-ghost use Rattle.numbers.specs.Checks.{decisionOf};
+ghost use Rattle.numbers.specs.Checks.{decisionOf, findingBy};
 ghost use Rattle.dayfile.specs.Limits.{fileLimits};
 ghost use Rattle.dayfile.specs.Records.{marksIn, positionsIn};
 ghost use Rattle.checks.specs.Positions.{positionChecks, positionListChecks};
-ghost use Rattle.checks.specs.Faults.{rawFaults, anyPositionFault, somePositionFault, positionFindings, WithPosition, positionDecision};
+ghost use Rattle.checks.specs.Faults.{rawFaults, anyPositionFault, somePositionFault, positionFindings, WithPosition, positionDecision, positionFound};
 
 // The most lots that a position may have, bought or sold.
 const LOTS_LIMIT: u32 = 1_000_000;
@@ -127,6 +127,25 @@ pub(crate) fn decide_positions(marks: &[u8], positions: &[u8]) -> Decision
         return decide(find_first(marks, positions));
     }
     Decision::Unmet
+}
+
+// What check k found, among what each found.
+fn found_by(f: PositionFindings, k: u32) -> Found
+    ensures { λ r. ⌜ r ≡ positionFound f k ⌝ }
+{
+    let missing = f.missing;
+    let lots = f.lots;
+    let o = Found::Nothing;
+    let o = o.or_wanted(k == 12, missing);
+    o.or_wanted(k == 13, lots)
+}
+
+// The first position where the condition of check k holds, given marks within the file's limit.
+pub(crate) fn find_in_positions(marks: &[u8], positions: &[u8], k: u32) -> Found
+    requires { ⌜ length (marksIn (now marks)) ≤ fileLimits .marks ⌝ }
+    ensures { λ r. ⌜ r ≡ findingBy (positionChecks (marksIn (now (marks .entry))) (positionsIn (now (positions .entry)))) k ⌝ }
+{
+    found_by(find_first(marks, positions), k)
 }
 
 // What the checks decide of a list of positions, given the marks: 2 where a file may not have as many of either, then 12 and 13.

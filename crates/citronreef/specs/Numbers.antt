@@ -8,6 +8,9 @@ use Rattle.settlement.specs.OneMark as marks
 use Rattle.citronreef.specs.declared.Quote.{Quote}
 use Rattle.citronreef.specs.declared.Outcome.{Outcome}
 use Rattle.citronreef.specs.declared.MarkOutcome.{MarkOutcome}
+use Rattle.citronreef.specs.declared.Finding.{Finding}
+use Rattle.numbers.specs.declared.Found.{Found}
+use Rattle.numbers.specs.declared.Found.the-variants.{At, Nothing}
 
 -- the answer of a call on one contract
 abbrev pub quoteOf : calls.Answer → Quote
@@ -35,3 +38,8 @@ abbrev pub markOutcomeOf : marks.MarkAnswer → MarkOutcome
 markOutcomeOf (marks.priced previous last d change) =
     record { refused = 0; index = 0; previous = previous; last = last; corrected = corrects d; number = numberOf d; change = change }
 markOutcomeOf (marks.refused k i) = record { refused = k; index = i; previous = 0; last = 0; corrected = 0; number = 0; change = pos 0 }
+
+-- what a check finds by itself
+abbrev pub findingOf : Found → Finding
+findingOf (At i) = record { found = 1; index = i }
+findingOf Nothing = record { found = 0; index = 0 }

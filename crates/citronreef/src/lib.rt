@@ -10,7 +10,9 @@ ghost use Rattle.settlement.specs.Settling.{said as saidOfDay};
 ghost use Rattle.settlement.specs.OneMark.{markAnswerOf};
 ghost use Rattle.settlement.specs.OneMark.{said as saidOfMark};
 ghost use Rattle.text.specs.Writing.{Wrote};
-ghost use Rattle.citronreef.specs.Numbers.{quoteOf, outcomeOf, markOutcomeOf};
+ghost use Rattle.citronreef.specs.Numbers.{quoteOf, outcomeOf, markOutcomeOf, findingOf};
+ghost use Rattle.checks.specs.Finding.{foundOf};
+use numbers::Found;
 use pricing::Priced;
 use products::Code;
 use settlement::MarkPrices;
@@ -132,6 +134,25 @@ fn mark_numbers(p: MarkPrices) -> MarkOutcome
     }
 }
 
+// The record where the condition of one check holds first. Where it holds at none, both are 0.
+#[repr(C)]
+pub struct Finding {
+    pub found: u64,
+    pub index: u64,
+}
+
+fn finding_numbers(f: Found) -> Finding
+    ensures { λ r. ⌜ r ≡ findingOf f ⌝ }
+{
+    match f {
+        Found::At(i) => Finding {
+            found: 1,
+            index: i as u64,
+        },
+        Found::Nothing => Finding { found: 0, index: 0 },
+    }
+}
+
 // The value of one contract in cents. The code is its two letters.
 #[no_mangle]
 pub extern "C" fn citronreef_value(first: u8, second: u8, price: u32) -> Quote
@@ -171,6 +192,14 @@ pub extern "C" fn citronreef_mark(file: &[u8], mark: usize) -> MarkOutcome
     ensures { λ r. ⌜ r ≡ markOutcomeOf (markAnswerOf fileLimits (now (file .entry)) mark) ⌝ }
 {
     mark_numbers(settlement::mark(file, mark))
+}
+
+// The first record of a day file where the condition of one of checks 1 to 13 holds, whatever the others say.
+#[no_mangle]
+pub extern "C" fn citronreef_find(file: &[u8], check: u32) -> Finding
+    ensures { λ r. ⌜ r ≡ findingOf (foundOf fileLimits (now (file .entry)) check) ⌝ }
+{
+    finding_numbers(checks::find(file, check))
 }
 
 // Settles a day file into the lent amounts, writes its sheet at the start of `out`, and answers the sheet's length. With room for

@@ -17,7 +17,7 @@ use Rattle.numbers.specs.declared.deciding.Decision.the-variants.{Unmet}
 use Rattle.dayfile.specs.Limits.{Limits, fileLimits}
 use Rattle.dayfile.specs.Layout.{countsOf, headerSize, correctionsStart, positionsStart, lengthOf}
 use Rattle.dayfile.specs.Opening.{withinLimits, asLaidOut, openedBy, openedOf}
-use Rattle.dayfile.specs.Steps.{LaidOut}
+use Rattle.dayfile.specs.Steps.{Limited, LaidOut}
 use Rattle.dayfile.specs.declared.file.DayFile.{DayFile}
 use Rattle.dayfile.specs.declared.file.Opened.the-variants.{File, Refused}
 use Rattle.numbers.proofs.Truth.{and-left, and-right}
@@ -85,6 +85,19 @@ module _ (l : Limits) (f : List ℕ) where
   unfolding countsOf
   laid-opens h =
       opened-by-tests l f ∙ simp (le-ltb _ _ (h .header), le-leb _ _ (h .marks-fit), le-leb _ _ (h .corrections-fit), le-leb _ _ (h .positions-fit), eq-eqb _ _ (h .marks-at), eq-eqb _ _ (h .corrections-at), eq-eqb _ _ (h .positions-at), eq-eqb _ _ (h .ends-at))
+
+-- counts that pass the test are within the day file's own limits
+pub limited : (d : DayFile) → withinLimits fileLimits d ≡ true → Limited d
+limited d p =
+    let m = leb (d .marks) (fileLimits .marks) in
+    let c = leb (d .corrections) (fileLimits .corrections) in
+    let n = leb (d .positions) (fileLimits .positions) in
+    let q = and-left (m && c) n p in
+    record {
+      marks = leb-true _ _ (and-left m c q);
+      corrections = leb-true _ _ (and-right m c q);
+      positions = leb-true _ _ (and-right (m && c) n p);
+    }
 
 -- a file that passes at the day file's own limits has counts within them, and the length that they give
 pub laid-out : (f : List ℕ) {d : DayFile} → openedOf fileLimits f ≡ File d → LaidOut f d

@@ -7,9 +7,9 @@ use lib.ListN.{length}
 use Rattle.numbers.specs.Bytes.{u32At, part, recordsOf}
 use Rattle.dayfile.specs.Records.{markSize, correctionSize, positionSize, markOf, correctionOf, positionOf, listsOf}
 use Rattle.dayfile.specs.Layout.{countsOf, lengthOf, headerSize, correctionsStart, positionsStart, markBytes, correctionBytes, positionBytes, listsIn, listsOfFile}
-use Rattle.dayfile.specs.Steps.{LaidOut, Small}
+use Rattle.dayfile.specs.Steps.{Limited, Small}
 use Rattle.dayfile.specs.declared.file.DayFile.{DayFile}
-use Rattle.numbers.proofs.Sections.{size-is, length-part}
+use Rattle.numbers.proofs.Sections.{size-is, length-part, part-within}
 
 -- how many records stand in a part of a file
 sized : {R : Type 0} (f : List ℕ → R) (w a k n : ℕ) (s : List ℕ) → a + k ≤ length s → k / w ≡ n → length (map f (recordsOf w (part a k s))) ≡ n
@@ -26,13 +26,17 @@ module _ (s : List ℕ) (d : DayFile) (whole : length s ≡ lengthOf d) where
   pub positions-sized : length (listsIn s d .positions) ≡ d .positions
   positions-sized = sized positionOf positionSize (positionsStart d) (positionSize * d .positions) (d .positions) s (omega (arith, whole)) (omega arith)
 
--- those of a file that opens are within the limits
-pub small : (s : List ℕ) (d : DayFile) → LaidOut s d → Small (listsIn s d)
+-- no part of a file has more records than its length gives
+few : {R : Type 0} (f : List ℕ → R) (a n : ℕ) (s : List ℕ) {m : ℕ} → n ≤ m → length (map f (recordsOf 12 (part a (12 * n) s))) ≤ m
+few f a n s h = rw (size-is f 12 (part a (12 * n) s)) (omega (arith, part-within a (12 * n) s))
+
+-- those of a file with counts within the limits are within them, whatever its length
+pub small : (s : List ℕ) (d : DayFile) → Limited d → Small (listsIn s d)
 small s d h =
     record {
-      marks = rw (marks-sized s d (h .whole)) (h .limited .marks);
-      corrections = rw (corrections-sized s d (h .whole)) (h .limited .corrections);
-      positions = rw (positions-sized s d (h .whole)) (h .limited .positions);
+      marks = few markOf headerSize (d .marks) s (h .marks);
+      corrections = few correctionOf (correctionsStart d) (d .corrections) s (h .corrections);
+      positions = few positionOf (positionsStart d) (d .positions) s (h .positions);
     }
 
 -- The lists of a file that has the length of the layout have as many records as its header counts: M, C and N.

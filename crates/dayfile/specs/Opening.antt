@@ -1,12 +1,15 @@
 -- Checks 1 to 3, over a file's header and its length.
-use mathlib.Core.Bool.{Bool, not, _&&_}
+use mathlib.Core.Bool.{Bool, true, false, cond, not, _&&_}
 use mathlib.Core.List.{List, [], _∷_}
 use mathlib.Core.Logic.{_⊎_, _≢_}
 use Prim.Native.Nat.{ℕ, _<_}
 use lib.Dec.{leb, ltb, eqb}
 use lib.ListN.{length}
 use Rattle.numbers.specs.Bytes.{u32At}
-use Rattle.numbers.specs.Checks.{Check, Checks, decisionOf}
+use Rattle.numbers.specs.Order.{orWanted}
+use Rattle.numbers.specs.Checks.{Check, Checks, only, decisionOf, findingBy}
+use Rattle.numbers.specs.declared.Found.{Found}
+use Rattle.numbers.specs.declared.Found.the-variants.{At, Nothing}
 use Rattle.numbers.specs.declared.deciding.Decision.{Decision}
 use Rattle.numbers.specs.declared.deciding.Decision.the-variants.{Met, Unmet}
 use Rattle.dayfile.specs.Limits.{Limits}
@@ -59,3 +62,22 @@ openedBy f Unmet = File (countsOf f)
 -- the file's counts, or the number of the check that refuses it
 unfoldable pub openedOf : Limits → List ℕ → Opened
 openedOf l f = openedBy f (decisionOf (headerChecks l f))
+
+-- ---- each check by itself
+
+-- what is looked at of the header: of a file that is shorter, its length alone
+abbrev pub lookedAt : Limits → List ℕ → Bool → Checks
+lookedAt l f true = only (headerCheck l f Short)
+lookedAt l f false = headerChecks l f
+
+unfoldable pub foundInHeader : Limits → List ℕ → ℕ → Found
+foundInHeader l f k = findingBy (lookedAt l f (ltb (length f) headerSize)) k
+
+-- by the three tests
+abbrev pub foundByTests : Bool → Bool → Bool → ℕ → Found
+foundByTests short above broken k =
+    orWanted (orWanted (orWanted Nothing (eqb k 1) (cond short (At 0) Nothing)) (eqb k 2) (cond above (At 0) Nothing)) (eqb k 3) (cond broken (At 0) Nothing)
+
+-- the counts of a header that stands whole and is within the limits, or the number of the check that says otherwise
+unfoldable pub countedOf : Limits → List ℕ → Opened
+countedOf l f = cond (ltb (length f) headerSize) (Refused 1) (cond (withinLimits l (countsOf f)) (File (countsOf f)) (Refused 2))

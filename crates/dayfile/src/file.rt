@@ -3,13 +3,14 @@ use crate::bytes::u32_at;
 use crate::records::Correction;
 use crate::records::Mark;
 use crate::records::Position;
+use numbers::Found;
 ghost use mathlib.Core.Path.{_≡_};
 ghost use Prim.Native.Nat.{_-_, _≤_};
 ghost use lib.ListN.{length};
 ghost use Rattle.dayfile.specs.Limits.{fileLimits};
 ghost use Rattle.numbers.specs.Bytes.{part};
 ghost use Rattle.dayfile.specs.Layout.{headerSize, countsOf, correctionsStart, positionsStart, lengthOf, markBytes, correctionBytes, positionBytes};
-ghost use Rattle.dayfile.specs.Opening.{withinLimits, asLaidOut, openedOf};
+ghost use Rattle.dayfile.specs.Opening.{withinLimits, asLaidOut, openedOf, foundByTests, foundInHeader, countedOf};
 
 // The counts of a day file's three sections.
 pub struct DayFile {
@@ -138,6 +139,43 @@ pub fn open_file(s: &[u8]) -> Opened
         } else {
             Opened::Refused(3)
         }
+    } else {
+        Opened::Refused(2)
+    }
+}
+
+// What check k of three finds, by their tests. There is one file, and its index is 0.
+fn found_by_tests(short: bool, above: bool, broken: bool, k: u32) -> Found
+    ensures { λ r. ⌜ r ≡ foundByTests short above broken k ⌝ }
+{
+    let none = Found::Nothing;
+    let o = none.or_wanted(k == 1, none.or_at(short, 0));
+    let o = o.or_wanted(k == 2, none.or_at(above, 0));
+    o.or_wanted(k == 3, none.or_at(broken, 0))
+}
+
+// What check k finds in the header by itself: the file, with the index 0, where its condition holds. Of a file that is shorter than a header
+// its length alone is looked at.
+pub fn find_in_header(s: &[u8], k: u32) -> Found
+    ensures { λ r. ⌜ r ≡ foundInHeader fileLimits (now (s .entry)) k ⌝ }
+{
+    if s.len() < DayFile::HEADER {
+        return found_by_tests(true, false, false, k);
+    }
+    let d = counts(s);
+    found_by_tests(false, !within_limits(d), !as_laid_out(s, d), k)
+}
+
+// The counts of a header that stands whole, where they are within the limits: checks 1 and 2 alone.
+pub fn counted(s: &[u8]) -> Opened
+    ensures { λ r. ⌜ r ≡ countedOf fileLimits (now (s .entry)) ⌝ }
+{
+    if s.len() < DayFile::HEADER {
+        return Opened::Refused(1);
+    }
+    let d = counts(s);
+    if within_limits(d) {
+        Opened::File(d)
     } else {
         Opened::Refused(2)
     }

@@ -26,7 +26,7 @@ abbrev pub Agree : Checks → Type 0
 Agree cs = (c : cs .Name) (i : ℕ) → Tells (cs .check c .test i) (cs .check c .Wrong i)
 
 module _ (cs : Checks) (agree : Agree cs) where
-  finds : (c : cs .Name) → Finds (HoldsAt cs c) (findingOf cs c)
+  pub finds : (c : cs .Name) → Finds (HoldsAt cs c) (findingOf cs c)
   finds c = first-finds (cs .check c .test) (agree c) (cs .size c)
 
   -- check k decides at i exactly where its condition is the first that holds, there first

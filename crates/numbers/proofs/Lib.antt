@@ -6,6 +6,7 @@ pub mod Held
 pub mod Counting
 pub mod Order
 pub mod Checks
+pub mod Findings
 pub mod Tables
 pub mod Sections
 pub mod Bytes

@@ -2,9 +2,9 @@
 use mathlib.Core.Path.{_≡_, refl, sym, ap, _∙_}
 use mathlib.Core.List.{List, [], _++_, map, append-assoc}
 use Prim.Native.Nat.{ℕ, zero, suc, _+_, _-_, _*_, _/_, _≤_, _<_}
-use native.Mathlib.Nat.{mul-zero, not-suc-le-zero, le-of-suc-le-suc}
+use native.Mathlib.Nat.{mul-zero, not-suc-le-zero, le-of-suc-le-suc, min-le-left}
 use native.Mathlib.Omega.{arith}
-use lib.ListN.{length, getD, take, drop, length-drop, drop-of-length-le}
+use lib.ListN.{length, getD, take, drop, length-take, length-drop, drop-of-length-le}
 use lib.Seq.{drop-drop, take-at, drop-at, take-all, take-nil, length-take-le}
 use Rattle.numbers.specs.Bytes.{part, records, recordsOf}
 
@@ -51,6 +51,9 @@ module _ {R : Type 0} (f : List ℕ → R) (w : ℕ) where
 
 pub length-part : (a n : ℕ) (s : List ℕ) → a + n ≤ length s → length (part a n s) ≡ n
 length-part a n s h = length-take-le n _ (rw (length-drop a s) (omega arith))
+
+pub part-within : (a n : ℕ) (s : List ℕ) → length (part a n s) ≤ n
+part-within a n s = rw (length-take n (drop a s)) (min-le-left n (length (drop a s)))
 
 pub part-at : (a b c : List ℕ) (f n : ℕ) → length a ≡ f → length b ≡ n → part f n (a ++ b ++ c) ≡ b
 part-at a b c f n h k = rw (append-assoc a b c, drop-at a (b ++ c) f h) (take-at b c n k)

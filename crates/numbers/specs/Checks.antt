@@ -4,7 +4,7 @@ use mathlib.Core.List.{List, [], _∷_, _++_, map}
 use mathlib.Core.Logic.{_⊎_, inl, inr, ⊎-elim}
 use Prim.Native.Nat.{ℕ, _<_}
 use Rattle.numbers.specs.Folds.{first}
-use Rattle.numbers.specs.Order.{Decides, Clear, decision}
+use Rattle.numbers.specs.Order.{Decides, Clear, FindsAt, FindsNone, decision, found}
 use Rattle.numbers.specs.declared.Found.{Found}
 use Rattle.numbers.specs.declared.deciding.Decision.{Decision}
 
@@ -52,6 +52,14 @@ module _ (cs : Checks) where
   abbrev pub Passes : Type 0
   Passes = Clear HoldsAt (cs .order)
 
+  -- Check k finds record i: its condition holds there and at no record before it, whatever the other checks say.
+  abbrev pub FindsFirst : ℕ → ℕ → Type 0
+  FindsFirst k i = FindsAt numberOf HoldsAt (cs .order) k i
+
+  -- The condition of check k holds at no record.
+  abbrev pub FindsNothing : ℕ → Type 0
+  FindsNothing k = FindsNone numberOf HoldsAt (cs .order) k
+
   -- the first record that fails a check
   abbrev pub findingOf : cs .Name → Found
   findingOf c = first (cs .check c .test) (cs .size c)
@@ -59,3 +67,7 @@ module _ (cs : Checks) where
   -- the first check that finds a record decides
   unfoldable pub decisionOf : Decision
   decisionOf = decision numberOf findingOf (cs .order)
+
+  -- what check k finds by itself
+  unfoldable pub findingBy : ℕ → Found
+  findingBy k = found numberOf findingOf k (cs .order)

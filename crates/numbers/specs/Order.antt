@@ -1,7 +1,10 @@
 -- Numbered conditions in an order, each about records by their index: which of them decides.
 use mathlib.Core.Path.{_≡_}
+use mathlib.Core.Bool.{Bool, cond}
 use mathlib.Core.List.{List, [], _∷_, _++_, List·Memᴰ}
 use Prim.Native.Nat.{ℕ, _<_}
+use lib.Dec.{eqb}
+use Rattle.numbers.specs.Folds.{orElse}
 use Rattle.numbers.specs.declared.Found.{Found}
 use Rattle.numbers.specs.declared.Found.the-variants.{At, Nothing}
 use Rattle.numbers.specs.declared.deciding.Decision.{Decision}
@@ -19,6 +22,18 @@ module _ {R : Type 0} (number : R → ℕ) (Holds : R → ℕ → Type 0) where
     pub none-earlier : (b : R) → List·Memᴰ b earlier → (j : ℕ) → ¬ (Holds b j)
     pub here : Holds condition i
     pub first : (j : ℕ) → j < i → ¬ (Holds condition j)
+
+  -- The condition with the number k holds at record i, and at no record before it.
+  pub record FindsAt (order : List R) (k i : ℕ) : Type 0 where
+    pub condition : R
+    pub listed : List·Memᴰ condition order
+    pub numbered : number condition ≡ k
+    pub here : Holds condition i
+    pub first : (j : ℕ) → j < i → ¬ (Holds condition j)
+
+  -- It holds at no record.
+  pub record FindsNone (order : List R) (k : ℕ) : Type 0 where
+    pub none : (c : R) → List·Memᴰ c order → number c ≡ k → (j : ℕ) → ¬ (Holds c j)
 
 -- none holds at any record
 pub record Clear {R : Type 0} (Holds : R → ℕ → Type 0) (order : List R) : Type 0 where
@@ -45,3 +60,12 @@ orFound Unmet k o = pick o k Unmet
 abbrev pub decision : {R : Type 0} → (R → ℕ) → (R → Found) → List R → Decision
 decision number finding [] = Unmet
 decision number finding (c ∷ cs) = pick (finding c) (number c) (decision number finding cs)
+
+-- what was found so far, or else what a condition found that has the number looked for
+abbrev pub orWanted : Found → Bool → Found → Found
+orWanted o wanted p = orElse o (cond wanted p Nothing)
+
+-- what is found by the condition with the number k
+abbrev pub found : {R : Type 0} → (R → ℕ) → (R → Found) → ℕ → List R → Found
+found number finding k [] = Nothing
+found number finding k (c ∷ cs) = orElse (cond (eqb k (number c)) (finding c) Nothing) (found number finding k cs)

@@ -71,15 +71,15 @@ module _ (s : List ℕ) (b : Bytes s) (d : DayFile) (laid : LaidOut s d) (passed
   unfolding l shareOf
   total-in c =
       rw (total-is (l .marks) (l .positions) (changeIn l) c (λ i h. mark-in l passed i h))
-      (omega (arith, sum-small (shareOf (l .marks) (l .positions) (changeIn l) c) (length (l .positions)) (λ i h. le-trans (keep-small c _ (amountOf (l .positions) (changeIn l) i)) (amount-in i h)), small s d laid .positions))
+      (omega (arith, sum-small (shareOf (l .marks) (l .positions) (changeIn l) c) (length (l .positions)) (λ i h. le-trans (keep-small c _ (amountOf (l .positions) (changeIn l) i)) (amount-in i h)), small s d (laid .limited) .positions))
 
   accepted-length : length (positionsText (accept l) ++ answerText (totals l)) ≤ sheetSize
   unfolding l positionsText answerText
   accepted-length =
       let total : Currency → ℤ = totalOf (l .marks) (l .positions) (changeIn l) in
-      let k : resentOf (l .corrections) < 10 ^ 20 = omega (arith, resent-small (l .corrections), small s d laid .corrections) in
+      let k : resentOf (l .corrections) < 10 ^ 20 = omega (arith, resent-small (l .corrections), small s d (laid .limited) .corrections) in
       rw length-append
-      (omega (arith, texts-length (lineAt (l .marks) (l .positions) (amountOf (l .positions) (changeIn l))) (length (l .positions)) lineSize line-in, small s d laid .positions, totals-length (total Aud) (total Nzd) (resentOf (l .corrections)) (total-in Aud) (total-in Nzd) k))
+      (omega (arith, texts-length (lineAt (l .marks) (l .positions) (amountOf (l .positions) (changeIn l))) (length (l .positions)) lineSize line-in, small s d (laid .limited) .positions, totals-length (total Aud) (total Nzd) (resentOf (l .corrections)) (total-in Aud) (total-in Nzd) k))
 
 -- ---- a file that is refused
 
@@ -117,7 +117,7 @@ module _ (s : List ℕ) (places : ℕ) where
     by-decision : (d : Decision) → decisionOf (fileChecks fileLimits s) ≡ d → planOf fileLimits s places ≡ planFrom s places d → length (sheetOf s places) ≤ sheetSize
     by-decision (Met k i) e p =
         let t = demand-2 fileLimits s places .0 (refused-answer p) in
-        let h = index-within (settlementChecks fileLimits s places) (fileLimits .positions) (sizes s places (small s (countsOf s) laid)) t in
+        let h = index-within (settlementChecks fileLimits s places) (fileLimits .positions) (sizes s places (small s (countsOf s) (laid .limited))) t in
         refused-fits p (omega arith)
     by-decision Unmet e p = by-room (passed-parts fileLimits s e .1) (ltb places (length (listsOfFile s .positions))) p
 

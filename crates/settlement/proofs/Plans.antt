@@ -93,7 +93,7 @@ module _ (f : List ℕ) where
       let same : countsOf f ≡ c = cc in
       let counted : resentOf (listsOfFile f .corrections) ≡ r = cc in
       let (h, passed) = passed-parts fileLimits f e in
-      rw (← same) (record { accepted = record { small = small f (countsOf f) (laid-out f h); passed = passed }; counted = sym counted })
+      rw (← same) (record { accepted = record { small = small f (countsOf f) (laid-out f h .limited); passed = passed }; counted = sym counted })
 
   pub sound : {o : Judged} {c : DayFile} {r : ℕ} → o ≡ judgedOf fileLimits f → o ≡ judged.Sound c r → Passing (listsIn f c) r
   unfolding judgedOf

@@ -1,4 +1,4 @@
--- `ffi::contract_numbers` meets its contract: by the two kinds of answer.
+-- `contract_numbers` meets its contract: by the two kinds of answer.
 use mathlib.Core.Path.{ap, sym}
 use borrow.Author.Needs.{needs}
 use Rattle.pricing.specs.Calls.{said}

@@ -1,4 +1,4 @@
--- `ffi::day_numbers` meets its contract: by the two kinds of answer.
+-- `day_numbers` meets its contract: by the two kinds of answer.
 use mathlib.Core.Path.{ap, sym, _∙_}
 use borrow.Author.Needs.{needs}
 use mir.Syntax.{w64}

@@ -16,7 +16,7 @@ write-positions-requires c κs =
     let m = c .before .before .marks-in .ensures in
     let p = c .before .positions-in .ensures in
     let l = settled-lines (s .args .file .now) (s .args .amounts .now) o e (s .pre .1) in
-    (s .pre .0, l .room, rw m (small (s .args .file .now) d (laid-out (s .args .file .now) (sym o ∙ e)) .marks), rw (m, p) (l .named))
+    (s .pre .0, l .room, rw m (small (s .args .file .now) d (laid-out (s .args .file .now) (sym o ∙ e) .limited) .marks), rw (m, p) (l .named))
 
 returns : tie.Need-returns
 returns c =

@@ -1,0 +1,14 @@
+use borrow.Author.Needs.{needs}
+use Rattle.checks.proofs.positions.found_by.Statement.{statement}
+use Rattle.checks.proofs.positions.found_by.Tie as tie
+
+returns : tie.Need-returns
+returns c = rw (c .or-wanted2 .ensures, c .before .or-wanted .ensures)
+
+pub found-by-spec : {M : Type 1} → statement M
+found-by-spec =
+    tie.close
+    (tie.spec
+    (λ c κs. search needs)
+    (λ c κs. search needs)
+    returns)
