@@ -1,10 +1,20 @@
 /*
  * Citronreef: value, tick value and bracket of one ASX 24 rate futures contract, the settlement of a day file,
- * what is said of each of its marks, and its sheet.
+ * what is said of each of its marks, where a check's condition holds in it, and its sheet.
  *
- * Link with libcitronreef.a, which `rt staticlib citronreef` writes to target/staticlib. No function keeps what it is lent, allocates or
- * reads anything but its arguments. Every argument is answered: a call that cannot be met is refused with a check's number, or, for
- * the sheet, answered with 0.
+ * Link with libcitronreef.so or libcitronreef.a; `pkg-config --cflags --libs citronreef` says how. docs/LIBRARY.md has examples,
+ * docs/REFUSALS.md the checks by their numbers. No function keeps what it is lent, allocates or reads anything but its arguments.
+ * Every argument is answered: a call that cannot be met is refused with a check's number, or, for the sheet, answered with 0.
+ *
+ * Threads: the library has no writable data. Any function may be called from many threads at once, also on the same file, as
+ * long as no two calls write to the same memory and nobody writes to a file while a call reads it.
+ *
+ * Stack: no call needs more than CITRONREEF_STACK_KIB. tests/installed/stack.c measures it.
+ *
+ * Null: a pointer with length 0 may be null, as the data of an empty std::vector is. This is tested and lies outside the proof,
+ * which is about slices, and a slice is never null. A null pointer with another length is not allowed.
+ *
+ * Alignment: amounts are aligned as int64_t is. A file and the room for a sheet may start at any byte.
  */
 #ifndef CITRONREEF_H
 #define CITRONREEF_H
@@ -15,6 +25,31 @@
 #ifdef __cplusplus
 extern "C" {
 #endif
+
+/* The version of this header and of the library that it comes with. */
+#define CITRONREEF_VERSION_MAJOR 0
+#define CITRONREEF_VERSION_MINOR 1
+#define CITRONREEF_VERSION_PATCH 0
+#define CITRONREEF_VERSION "0.1.0"
+
+/* A price is a whole number of units of 0.0001, so that 95.01 is 950100, and none is above 100.0000. */
+#define CITRONREEF_UNITS_PER_POINT 10000
+#define CITRONREEF_PRICE_LIMIT 1000000
+
+/* A bracket of 1 is this many of its units. */
+#define CITRONREEF_BRACKET_UNITS 100000000
+
+/* The most records that a day file has, and the most lots of a position, long or short. */
+#define CITRONREEF_MAX_MARKS 256
+#define CITRONREEF_MAX_CORRECTIONS 512
+#define CITRONREEF_MAX_POSITIONS 4096
+#define CITRONREEF_MAX_LOTS 1000000
+
+/* No sheet is longer than this, in bytes: 47 for each of 4,096 positions, and 90 for the totals and the resent count. */
+#define CITRONREEF_SHEET_SIZE 192602
+
+/* The stack that is enough for any call, in KiB. The deepest call measured, a sheet, took two thirds of it. */
+#define CITRONREEF_STACK_KIB 64
 
 /* The answer of a call on one contract. Where refused is not 0 it is the number of the check, and number is 0. */
 typedef struct {
@@ -46,6 +81,12 @@ typedef struct {
     int64_t change;     /* the change in value of one contract from the previous to the final price, in cents */
 } citronreef_mark_prices;
 
+/* Where a check's condition holds in a day file. */
+typedef struct {
+    uint64_t found; /* 1 where it holds anywhere, 0 where it does not */
+    uint64_t index; /* the first record where it holds; 0 where it does not, or where the check looks at no single record */
+} citronreef_found;
+
 /* The value of one contract in cents. The code is two letters; the price is in units of 0.0001. */
 citronreef_quote citronreef_value(uint8_t first, uint8_t second, uint32_t price);
 
@@ -56,25 +97,30 @@ citronreef_quote citronreef_tick_value(uint8_t first, uint8_t second, uint32_t p
 citronreef_quote citronreef_bracket(uint8_t first, uint8_t second, uint32_t price);
 
 /*
- * Settles a day file of file_length bytes. The amounts of an accepted file stand in its first N places, in cents; places from
- * N on, and all places after a refusal, are left as they were. Neither pointer may be null, and the two do not overlap.
+ * Settles a day file of file_length bytes. The amounts of an accepted file stand in the first N places, in cents; places from
+ * N on, and all places after a refusal, are left as they were. File and amounts do not overlap.
  */
 citronreef_outcome citronreef_settle(const uint8_t *file, size_t file_length, int64_t *amounts, size_t places);
 
 /*
  * The prices of the mark with this index, from 0, of a day file that passes checks 1 to 13. A file that does not is refused as
  * citronreef_settle refuses it; a mark that the file does not have is refused with 12, and index is the one asked for. The amount
- * of a position is its lots times the change of its mark. The pointer may not be null.
+ * of a position is its lots times the change of its mark.
  */
 citronreef_mark_prices citronreef_mark(const uint8_t *file, size_t file_length, size_t mark);
 
-/* No sheet is longer than this, in bytes: 47 for each of 4,096 positions, and 90 for the totals and the resent count. */
-#define CITRONREEF_SHEET_SIZE 192602
+/*
+ * Whether the condition of the check with this number, 1 to 13, holds anywhere in a day file, and the first record where it
+ * does. Each condition is looked for by itself, so that one may be found that vanishes once an earlier one is mended. Of a file
+ * that is shorter than its header only 1 is looked for, and of one with a count above its limit only 1 to 3; of one that is shorter
+ * than its counts say, the records that it has whole are looked at. Any other number is not found.
+ */
+citronreef_found citronreef_find(const uint8_t *file, size_t file_length, uint32_t check);
 
 /*
  * Settles a day file as citronreef_settle does, writes its sheet at the start of out, and answers the sheet's length; the
  * other bytes of out stay. With room for less than CITRONREEF_SHEET_SIZE bytes nothing is written, neither sheet nor
- * amounts, and the answer is 0. No pointer may be null, and no two of the three parts overlap.
+ * amounts, and the answer is 0. No two of file, amounts and out overlap.
  */
 size_t citronreef_sheet(const uint8_t *file, size_t file_length, int64_t *amounts, size_t places, uint8_t *out, size_t room);
 

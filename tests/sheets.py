@@ -1,10 +1,10 @@
 #!/usr/bin/env python3
 """Runs the sheet program on many inputs and compares what it prints with the sheets that settlement.py works out.
 
-  sheets.py PROGRAM
+  sheets.py PROGRAM COMMAND
 
 The inputs are the stored day files, random days, and inputs as long as the program reads and longer. Also compared: what
-it says where it cannot read or write, and the sheet that README.md shows.
+it says where it cannot read or write, and the sheet that README.md shows, of the file that COMMAND (citronreef) makes.
 """
 import os
 import subprocess
@@ -12,9 +12,6 @@ import sys
 from pathlib import Path
 
 ROOT = Path(__file__).resolve().parent.parent
-sys.path.insert(0, str(ROOT / "tools"))
-
-import dayfile
 from random_days import random_day
 from records import MAX_CORRECTIONS, MAX_MARKS, MAX_POSITIONS, file_of
 from require import require
@@ -46,18 +43,18 @@ def check_failures(program):
     print("sheets: failures to read and to write are told")
 
 
-def check_readme(program):
+def check_readme(program, command):
     """README.md shows the sheet of the sample day."""
-    text = (ROOT / "samples" / "day.txt").read_text().splitlines()
-    printed = subprocess.run([program], input=dayfile.made(text), capture_output=True, check=True).stdout.decode()
+    file = subprocess.run([command, "make", ROOT / "samples" / "day.txt"], capture_output=True, check=True).stdout
+    printed = subprocess.run([program], input=file, capture_output=True, check=True).stdout.decode()
     shown = "".join(f"    {line}\n" for line in printed.splitlines())
     require(shown in (ROOT / "README.md").read_text(), "the sheet that README.md shows")
     print("sheets: README.md shows the sheet of the sample day")
 
 
-def main(program):
+def main(program, command):
     check_failures(program)
-    check_readme(program)
+    check_readme(program, command)
     count = 0
     for name, standard_input in inputs():
         done = subprocess.run([program], input=standard_input, capture_output=True, check=True)
@@ -68,6 +65,6 @@ def main(program):
 
 
 if __name__ == "__main__":
-    if len(sys.argv) != 2:
+    if len(sys.argv) != 3:
         sys.exit(__doc__)
-    main(sys.argv[1])
+    main(sys.argv[1], sys.argv[2])

@@ -1,4 +1,4 @@
-//! Links the static library: the one that stands in CITRONREEF_LIB, or the one that `rt staticlib citronreef` writes.
+//! Links the static library: the one that stands in CITRONREEF_LIB, or the one that `rt staticlib citronreef` writes to target.
 use std::env;
 use std::path::PathBuf;
 
@@ -10,7 +10,7 @@ fn main() {
     println!("cargo:rerun-if-changed={}", library.display());
     if !library.exists() {
         eprintln!(
-            "There is no {}. Run `rt staticlib citronreef` at the top of the repository first, \
+            "There is no {}. Run `bash tools/build` at the top of the repository first, \
              or name the folder of an installed libcitronreef.a in CITRONREEF_LIB.",
             library.display()
         );

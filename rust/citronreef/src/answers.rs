@@ -1,4 +1,4 @@
-//! The answers of the calls.
+//! The answers of the calls, and the checks in words.
 
 use std::error::Error;
 use std::fmt;
@@ -11,7 +11,9 @@ use std::fmt;
 /// ```
 #[derive(Clone, Copy, Debug, PartialEq, Eq)]
 pub struct Refusal {
+    /// The number of the check.
     pub number: u32,
+    /// The first record of the check's section where its condition holds; 0 where it looks at no single record.
     pub index: usize,
 }
 
@@ -36,17 +38,33 @@ const WORDS: [&str; 15] = [
 
 impl Refusal {
     /// A refusal that names no record.
+    ///
+    /// ```
+    /// use citronreef::{value, Refusal};
+    ///
+    /// assert_eq!(value(*b"ZZ", 950_000), Err(Refusal::of(4)));
+    /// ```
     pub fn of(number: u32) -> Refusal {
         Refusal { number, index: 0 }
     }
 
     /// The condition of the check, in words.
+    ///
+    /// ```
+    /// let refusal = citronreef::settle(&[], &mut []).unwrap_err();
+    /// assert_eq!(refusal.words(), "the file is shorter than 24 bytes");
+    /// ```
     pub fn words(&self) -> &'static str {
         words(self.number)
     }
 }
 
 /// The condition of the check with this number, in words; nothing where no check has it.
+///
+/// ```
+/// assert_eq!(citronreef::words(12), "a position names no mark");
+/// assert_eq!(citronreef::words(16), "");
+/// ```
 pub fn words(number: u32) -> &'static str {
     (number as usize).checked_sub(1).and_then(|place| WORDS.get(place)).copied().unwrap_or("")
 }

@@ -1,5 +1,10 @@
 //! Safe functions over the proved library: the value, tick value and bracket of one contract, the settlement of a day file,
-//! what is said of its marks, and its sheet. The answers are those of document 01.
+//! what is said of its marks, where a check's condition holds in it, and its sheet. The answers are those of document 01.
+//!
+//! Prices are whole numbers of units of 0.0001, so that 95.01 is 950,100; amounts are whole cents. A call that is turned away
+//! answers a [`Refusal`]. The functions keep nothing and allocate nothing, and may be called from many threads at once.
+
+#![deny(missing_docs)]
 
 mod answers;
 pub mod records;
@@ -7,19 +12,37 @@ mod sys;
 
 pub use answers::{words, MarkPrices, Refusal, Settled};
 
+/// The version of this package, which is also that of the library and its header.
+pub const VERSION: &str = env!("CARGO_PKG_VERSION");
+
 /// The value of one contract in cents. The price is in units of 0.0001.
+///
+/// ```
+/// assert_eq!(citronreef::value(*b"IR", 950_000), Ok(98_782_138));
+/// assert_eq!(citronreef::value(*b"IR", 950_050).unwrap_err().number, 7);
+/// ```
 pub fn value(code: [u8; 2], price: u32) -> Result<u64, Refusal> {
     // SAFETY: the function takes numbers only, and answers for all of them.
     unsafe { sys::citronreef_value(code[0], code[1], price) }.answer()
 }
 
 /// The value at the price one tick higher, minus the value.
+///
+/// ```
+/// assert_eq!(citronreef::tick_value(*b"IR", 950_000), Ok(2_406));
+/// assert_eq!(citronreef::tick_value(*b"IR", 1_000_000).unwrap_err().number, 15);
+/// ```
 pub fn tick_value(code: [u8; 2], price: u32) -> Result<u64, Refusal> {
     // SAFETY: as in `value`.
     unsafe { sys::citronreef_tick_value(code[0], code[1], price) }.answer()
 }
 
 /// The bracket of a bond, in units of 10^-8.
+///
+/// ```
+/// assert_eq!(citronreef::bracket(*b"YT", 940_000), Ok(10_000_000_153));
+/// assert_eq!(citronreef::bracket(*b"IR", 940_000).unwrap_err().number, 4);
+/// ```
 pub fn bracket(code: [u8; 2], price: u32) -> Result<u64, Refusal> {
     // SAFETY: as in `value`.
     unsafe { sys::citronreef_bracket(code[0], code[1], price) }.answer()
@@ -27,6 +50,21 @@ pub fn bracket(code: [u8; 2], price: u32) -> Result<u64, Refusal> {
 
 /// Settles a day file. The amounts of an accepted file stand in the first places of `amounts`, in cents; the places behind
 /// them, and all places after a refusal, are left as they were.
+///
+/// ```
+/// use citronreef::records::{Day, Mark, Position};
+///
+/// let day = Day {
+///     marks: vec![Mark { code: *b"IR", month: 3, year: 27, previous: 950_000, today: 950_100 }],
+///     corrections: vec![],
+///     positions: vec![Position { account: 11, mark: 0, lots: 10 }, Position { account: 12, mark: 0, lots: -4 }],
+/// };
+/// let mut amounts = [0; 3];
+/// let settled = citronreef::settle(&day.bytes(), &mut amounts)?;
+/// assert_eq!(amounts, [24_060, -9_624, 0]);
+/// assert_eq!((settled.positions, settled.aud, settled.nzd, settled.resent), (2, 14_436, 0, 0));
+/// # Ok::<(), citronreef::Refusal>(())
+/// ```
 pub fn settle(file: &[u8], amounts: &mut [i64]) -> Result<Settled, Refusal> {
     // SAFETY: each pointer comes with the length of its slice, and the slices cannot overlap.
     unsafe { sys::citronreef_settle(file.as_ptr(), file.len(), amounts.as_mut_ptr(), amounts.len()) }.answer()
@@ -35,9 +73,49 @@ pub fn settle(file: &[u8], amounts: &mut [i64]) -> Result<Settled, Refusal> {
 /// The prices of the mark with this index of a day file that passes checks 1 to 13, the correction that decides, and the change
 /// in value of one contract. A file that does not pass is refused as `settle` refuses it; a mark that it does not have is refused
 /// with 12, and the index is the one asked for.
+///
+/// ```
+/// use citronreef::records::{Correction, Day, Mark};
+/// use citronreef::{mark, Refusal};
+///
+/// let day = Day {
+///     marks: vec![Mark { code: *b"IR", month: 3, year: 27, previous: 950_000, today: 950_200 }],
+///     corrections: vec![Correction { number: 7, mark: 0, price: 950_100 }],
+///     positions: vec![],
+/// };
+/// let said = mark(&day.bytes(), 0)?;
+/// assert_eq!((said.previous, said.final_price), (950_000, 950_100));
+/// assert_eq!((said.corrected_by, said.change), (Some(7), 2_406));
+/// assert_eq!(mark(&day.bytes(), 1), Err(Refusal { number: 12, index: 1 }));
+/// # Ok::<(), Refusal>(())
+/// ```
 pub fn mark(file: &[u8], mark: usize) -> Result<MarkPrices, Refusal> {
     // SAFETY: the pointer comes with the length of its slice.
     unsafe { sys::citronreef_mark(file.as_ptr(), file.len(), mark) }.answer()
+}
+
+/// The first record of a day file where the condition of the check with this number, 1 to 13, holds; none where it holds
+/// nowhere. Each condition is looked for by itself, so that one may be found that vanishes once an earlier one is mended. Of a
+/// file that is shorter than its header only 1 is looked for, and of one with a count above its limit only 1 to 3; of one that
+/// is shorter than its counts say, the records that it has whole are looked at. No other number is found.
+///
+/// ```
+/// use citronreef::find;
+/// use citronreef::records::{Day, Mark, Position};
+///
+/// let day = Day {
+///     marks: vec![Mark { code: *b"IR", month: 3, year: 27, previous: 950_000, today: 950_050 }],
+///     corrections: vec![],
+///     positions: vec![Position { account: 11, mark: 0, lots: 10 }, Position { account: 12, mark: 0, lots: 0 }],
+/// };
+/// assert_eq!(citronreef::settle(&day.bytes(), &mut [0; 2]).unwrap_err().number, 7);
+/// assert_eq!(find(&day.bytes(), 7), Some(0));
+/// assert_eq!(find(&day.bytes(), 8), None);
+/// assert_eq!(find(&day.bytes(), 13), Some(1));
+/// ```
+pub fn find(file: &[u8], check: u32) -> Option<usize> {
+    // SAFETY: as in `mark`.
+    unsafe { sys::citronreef_find(file.as_ptr(), file.len(), check) }.answer()
 }
 
 /// No sheet is longer than this, in bytes.
@@ -45,6 +123,13 @@ pub const SHEET_SIZE: usize = 47 * records::MAX_POSITIONS + 90;
 
 /// Settles a day file as `settle` does, writes its sheet at the start of `out`, and answers the sheet's length; the other bytes
 /// of `out` stay. With room for less than `SHEET_SIZE` bytes nothing is written, neither sheet nor amounts, and the answer is 0.
+///
+/// ```
+/// let empty = citronreef::records::Day::default().bytes();
+/// let mut out = vec![0; citronreef::SHEET_SIZE];
+/// let length = citronreef::write_sheet(&empty, &mut [], &mut out);
+/// assert_eq!(&out[..length], b"total AUD 0\ntotal NZD 0\nresent 0\n");
+/// ```
 pub fn write_sheet(file: &[u8], amounts: &mut [i64], out: &mut [u8]) -> usize {
     let (places, room) = (amounts.len(), out.len());
     // SAFETY: as in `settle`.

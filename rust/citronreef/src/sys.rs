@@ -29,12 +29,19 @@ pub struct MarkOutcome {
     change: i64,
 }
 
+#[repr(C)]
+pub struct Found {
+    found: u64,
+    index: u64,
+}
+
 extern "C" {
     pub fn citronreef_value(first: u8, second: u8, price: u32) -> Quote;
     pub fn citronreef_tick_value(first: u8, second: u8, price: u32) -> Quote;
     pub fn citronreef_bracket(first: u8, second: u8, price: u32) -> Quote;
     pub fn citronreef_settle(file: *const u8, file_length: usize, amounts: *mut i64, places: usize) -> Outcome;
     pub fn citronreef_mark(file: *const u8, file_length: usize, mark: usize) -> MarkOutcome;
+    pub fn citronreef_find(file: *const u8, file_length: usize, check: u32) -> Found;
     pub fn citronreef_sheet(
         file: *const u8,
         file_length: usize,
@@ -79,5 +86,11 @@ impl MarkOutcome {
             }),
             number => Err(Refusal { number: number as u32, index: self.index as usize }),
         }
+    }
+}
+
+impl Found {
+    pub fn answer(self) -> Option<usize> {
+        (self.found == 1).then_some(self.index as usize)
     }
 }

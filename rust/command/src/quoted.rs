@@ -16,23 +16,31 @@ pub fn price_text(units: u32) -> String {
 /// The units of 0.0001 that a price means: `95.01`, or `950100u` for units. A number without a point is no price.
 pub fn price_of(word: &str) -> Result<u32, String> {
     if let Some(units) = word.strip_suffix('u') {
-        return digits(units).ok_or_else(|| format!("{word} is no number of units: write digits and u, as in 950100u"));
+        return digits(units)
+            .ok_or_else(|| format!("{} is no number of units: write digits and u, as in 950100u", told(word)));
     }
+    if digits(word).is_some() {
+        return Err(format!("{word} has no decimal point: write {word}.00, or {word}u for units of 0.0001"));
+    }
+    let no_price = |why: &str| Err(format!("{} is no price: {why}", told(word)));
     let (whole, decimals) = match word.split_once('.') {
-        Some(parts) => parts,
-        None => return Err(format!("{word} has no decimal point: write {word}.00, or {word}u for units of 0.0001")),
+        Some(parts) if all_digits(parts.0) && all_digits(parts.1) => parts,
+        _ => return no_price("write digits with a point, as in 95.01"),
     };
-    if decimals.is_empty() || decimals.len() > DECIMALS {
-        return Err(format!("{word} is no price: it has one to four decimals, as in 95.01"));
+    if decimals.len() > DECIMALS {
+        return no_price("it has one to four decimals, as in 95.01");
     }
-    digits(&format!("{whole}{decimals:0<DECIMALS$}"))
-        .filter(|_| !whole.is_empty())
-        .ok_or_else(|| format!("{word} is no price: write digits with a point, as in 95.01"))
+    digits(&format!("{whole}{decimals:0<DECIMALS$}")).map_or_else(|| no_price("the largest is 429496.7295"), Ok)
+}
+
+/// Whether a word has digits and nothing else.
+fn all_digits(word: &str) -> bool {
+    !word.is_empty() && word.bytes().all(|byte| byte.is_ascii_digit())
 }
 
 /// A number of decimal digits alone that fits 32 bits.
 pub fn digits(word: &str) -> Option<u32> {
-    word.bytes().all(|byte| byte.is_ascii_digit()).then(|| word.parse().ok()).flatten()
+    all_digits(word).then(|| word.parse().ok()).flatten()
 }
 
 /// A code as two capital letters, or in hexadecimal where the bytes are others.
@@ -40,6 +48,38 @@ pub fn code_text(code: [u8; 2]) -> String {
     match code.iter().all(u8::is_ascii_uppercase) {
         true => code.iter().map(|&byte| char::from(byte)).collect(),
         false => format!("0x{:02x}{:02x}", code[0], code[1]),
+    }
+}
+
+/// The two bytes of a code: two capital letters, or any two bytes in hexadecimal.
+pub fn code_of(word: &str) -> Result<[u8; 2], String> {
+    if let Some(code) = word.strip_prefix("0x").and_then(hexadecimal) {
+        return Ok(code.to_be_bytes());
+    }
+    match *word.as_bytes() {
+        [first, second] if first.is_ascii_uppercase() && second.is_ascii_uppercase() => Ok([first, second]),
+        [first, second] => {
+            let other = code_text([first, second]);
+            Err(format!("{} is no code: write two capital letters, as in IR, or {other} for these bytes", told(word)))
+        }
+        _ => {
+            Err(format!("{} is no code: write two capital letters, as in IR, or 0x and four hexadecimal digits", told(word)))
+        }
+    }
+}
+
+/// A number of four hexadecimal digits.
+fn hexadecimal(word: &str) -> Option<u16> {
+    let digits = word.len() == 4 && word.bytes().all(|byte| byte.is_ascii_hexdigit());
+    digits.then(|| u16::from_str_radix(word, 16).ok()).flatten()
+}
+
+/// A code for a person who has to mend it, with the letters where there are any: 0x6972 ("ir").
+pub fn code_spelled(code: [u8; 2]) -> String {
+    let letters = String::from_utf8_lossy(&code);
+    match code.iter().all(u8::is_ascii_graphic) && !code.iter().all(u8::is_ascii_uppercase) {
+        true => format!("{} (\"{letters}\")", code_text(code)),
+        false => code_text(code),
     }
 }
 
@@ -52,7 +92,35 @@ pub fn contract_text(mark: &Mark) -> String {
 
 /// A contract as the readable text names it: XT/3/27.
 pub fn contract_key(mark: &Mark) -> String {
-    format!("{}/{}/{}", code_text(mark.code), mark.month, mark.year)
+    contract_name([mark.code[0], mark.code[1], mark.month, mark.year])
+}
+
+/// The same, of the four bytes of code, month and year.
+pub fn contract_name([first, second, month, year]: [u8; 4]) -> String {
+    format!("{}/{month}/{year}", code_text([first, second]))
+}
+
+/// The four bytes of the contract that a name such as XT/3/27 means.
+pub fn contract_of(word: &str) -> Result<[u8; 4], String> {
+    let no_name = || format!("{} is no contract's name: write code/month/year, as in XT/3/27", told(word));
+    let parts: Vec<&str> = word.splitn(4, '/').collect();
+    let (code, month, year) = match parts[..] {
+        [code, month, year] => (code_of(code)?, month, year),
+        _ => return Err(no_name()),
+    };
+    let byte = |word| digits(word).and_then(|number| u8::try_from(number).ok()).ok_or_else(no_name);
+    Ok([code[0], code[1], byte(month)?, byte(year)?])
+}
+
+/// A word as messages repeat it: its first characters, with those that do not print escaped.
+pub fn told(word: &str) -> String {
+    const TOLD: usize = 40;
+    let start: String = word.chars().take(TOLD).flat_map(char::escape_debug).collect();
+    if word.chars().nth(TOLD).is_some() {
+        start + ".."
+    } else {
+        start
+    }
 }
 
 #[cfg(test)]
@@ -90,5 +158,49 @@ mod tests {
         ] {
             assert!(price_of(word).is_err(), "{word}");
         }
+    }
+
+    #[test]
+    fn what_is_wrong_with_a_price_is_told() {
+        for (word, says) in [
+            ("100", "100 has no decimal point: write 100.00, or 100u for units of 0.0001"),
+            ("95,01", "95,01 is no price: write digits with a point, as in 95.01"),
+            ("95.00001", "95.00001 is no price: it has one to four decimals, as in 95.01"),
+            ("429496.7296", "429496.7296 is no price: the largest is 429496.7295"),
+            ("-5u", "-5u is no number of units: write digits and u, as in 950100u"),
+        ] {
+            assert_eq!(price_of(word), Err(says.to_string()));
+        }
+    }
+
+    #[test]
+    fn contracts_come_back_from_their_names() {
+        for code in 0..=u16::MAX {
+            let [first, second] = code.to_be_bytes();
+            assert_eq!(code_of(&code_text([first, second])), Ok([first, second]));
+            let contract = [first, second, second.wrapping_mul(7), first.wrapping_mul(5)];
+            let name = contract_name(contract);
+            assert_eq!(contract_of(&name), Ok(contract));
+            assert!(!name.contains(|c: char| c == '#' || c == '@' || !c.is_ascii_graphic()));
+        }
+        assert_eq!(contract_name(*b"XT\x03\x1b"), "XT/3/27");
+        assert_eq!(contract_of("0x5854/03/27"), Ok(*b"XT\x03\x1b"));
+    }
+
+    #[test]
+    fn what_is_no_contract_is_told() {
+        for word in
+            ["", "XT", "XT/3", "XT/3/", "XT//27", "/3/27", "XT/3/256", "XT/-3/27", "XT/3/27/", "xt/3/27", "0x58/3/27"]
+        {
+            assert!(contract_of(word).is_err(), "{word}");
+        }
+    }
+
+    #[test]
+    fn words_are_repeated_shortly_and_in_print() {
+        assert_eq!(told("95.01"), "95.01");
+        assert_eq!(told("\u{feff}mark\u{1b}"), "\\u{feff}mark\\u{1b}");
+        assert_eq!(told(&"é".repeat(40)), "é".repeat(40));
+        assert_eq!(told(&"é".repeat(41)), "é".repeat(40) + "..");
     }
 }

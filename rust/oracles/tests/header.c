@@ -29,11 +29,20 @@ static void print_mark(citronreef_mark_prices m)
            m.refused, m.index, m.previous, m.final_price, m.corrected, m.number, m.change);
 }
 
+static void print_found(citronreef_found f)
+{
+    printf("%" PRIu64 " %" PRIu64 "\n", f.found, f.index);
+}
+
+_Static_assert(CITRONREEF_SHEET_SIZE == 47 * CITRONREEF_MAX_POSITIONS + 90, "room for the longest sheet");
+_Static_assert(CITRONREEF_PRICE_LIMIT == 100 * CITRONREEF_UNITS_PER_POINT, "no price is above 100.0000");
+
 static uint8_t out[CITRONREEF_SHEET_SIZE];
 
 int main(void)
 {
     int64_t amounts[3] = {-1, -1, -1};
+    printf("%s %d %d %d\n", CITRONREEF_VERSION, CITRONREEF_VERSION_MAJOR, CITRONREEF_VERSION_MINOR, CITRONREEF_VERSION_PATCH);
     print_outcome(citronreef_settle(file, sizeof file, amounts, 1));
     print_outcome(citronreef_settle(file, sizeof file, amounts, 3));
     printf("%" PRId64 " %" PRId64 " %" PRId64 "\n", amounts[0], amounts[1], amounts[2]);
@@ -42,6 +51,8 @@ int main(void)
     print_quote(citronreef_bracket('Y', 'T', 940000));
     print_mark(citronreef_mark(file, sizeof file, 0));
     print_mark(citronreef_mark(file, sizeof file, 1));
+    print_found(citronreef_find(file, sizeof file, 3));
+    print_found(citronreef_find(file, sizeof file - 1, 3));
     printf("%zu\n", citronreef_sheet(file, sizeof file, amounts, 3, out, sizeof out - 1));
     fwrite(out, 1, citronreef_sheet(file, sizeof file, amounts, 3, out, sizeof out), stdout);
     return 0;

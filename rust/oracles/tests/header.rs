@@ -4,6 +4,7 @@ use std::path::Path;
 use std::process::Command;
 
 const PRINTED: &str = "\
+0.1.0 0 1 0
 14 0 0 0 0 0
 0 0 2 14436 0 1
 24060 -9624 -1
@@ -12,6 +13,8 @@ const PRINTED: &str = "\
 0 10000000153
 0 0 950000 950100 1 7 2406
 12 1 0 0 0 0 0
+0 0
+1 0
 0
 11 IR 3 18 24060 AUD
 12 IR 3 18 -9624 AUD

@@ -1,0 +1,126 @@
+"""Citronreef for Python: values of one ASX 24 rate futures contract, the settlement of a day file, and its sheet.
+
+Prices are Decimal, as quoted: Decimal("95.01"). Amounts are whole cents. A call that is turned away raises Refusal.
+
+    >>> from decimal import Decimal
+    >>> value("IR", Decimal("95.01"))
+    98784544
+    >>> value("IR", Decimal("95.005"))
+    Traceback (most recent call last):
+    citronreef.answers.Refusal: refused 7 at 0: a mark's price is not a multiple of its product's tick
+
+The answers come from the proved library, libcitronreef.so. It is looked for under the name in CITRONREEF_LIBRARY, then where this
+package's own install or repository has it, then where the loader looks.
+"""
+from __future__ import annotations
+
+import ctypes
+from decimal import Decimal
+from typing import Optional, Union
+
+from .answers import WORDS, MarkPrices, Refusal, Settled
+from .library import MAX_POSITIONS, SHEET_SIZE, VERSION, Amounts, Sheet, loaded
+from .prices import price_of, scaled, units_of
+
+__all__ = [
+    "MAX_CORRECTIONS", "MAX_LOTS", "MAX_MARKS", "MAX_POSITIONS", "PRICE_LIMIT", "VERSION", "WORDS",
+    "MarkPrices", "Refusal", "Settled", "bracket", "find", "mark", "price_of", "settle", "sheet", "tick_value", "units_of", "value",
+]
+
+PRICE_LIMIT = Decimal("100.0000")
+MAX_MARKS = 256
+MAX_CORRECTIONS = 512
+MAX_LOTS = 1_000_000
+
+Bytes = Union[bytes, bytearray, memoryview]
+
+_LARGEST_CHECK = 2**32 - 1
+_LARGEST_INDEX = 2 ** (8 * ctypes.sizeof(ctypes.c_size_t)) - 1
+_library = loaded()
+
+
+# Arguments
+
+
+def _letters(code: str) -> bytes:
+    if not isinstance(code, str):
+        raise TypeError(f"a code is a str, as 'IR', and not {type(code).__name__}")
+    if len(code) != 2 or not code.isascii():
+        raise ValueError(f"{code!r} is no code: it has two letters")
+    return code.encode()
+
+
+def _bytes(file: Bytes) -> bytes:
+    if not isinstance(file, (bytes, bytearray, memoryview)):
+        raise TypeError(f"a day file is bytes, and not {type(file).__name__}")
+    return bytes(file)
+
+
+def _whole(number: int, what: str) -> int:
+    if not isinstance(number, int) or isinstance(number, bool):
+        raise TypeError(f"{what} is an int, and not {type(number).__name__}")
+    return number
+
+
+# Calls
+
+
+def _quoted(call: str, code: str, price: Decimal) -> int:
+    first, second = _letters(code)
+    quote = getattr(_library, "citronreef_" + call)(first, second, units_of(price))
+    if quote.refused:
+        raise Refusal(quote.refused)
+    return int(quote.number)
+
+
+def value(code: str, price: Decimal) -> int:
+    """The value of one contract, in cents."""
+    return _quoted("value", code, price)
+
+
+def tick_value(code: str, price: Decimal) -> int:
+    """The value at the price one tick higher, minus the value, in cents."""
+    return _quoted("tick_value", code, price)
+
+
+def bracket(code: str, price: Decimal) -> Decimal:
+    """The bracket of a bond, with eight decimals."""
+    return scaled(_quoted("bracket", code, price), 8)
+
+
+def settle(file: Bytes) -> Settled:
+    """Settles a day file: the amount of each position, the totals, and how many corrections are resent."""
+    file, amounts = _bytes(file), Amounts()
+    outcome = _library.citronreef_settle(file, len(file), amounts, MAX_POSITIONS)
+    if outcome.refused:
+        raise Refusal(outcome.refused, outcome.index)
+    return Settled(tuple(amounts[: outcome.positions]), outcome.aud, outcome.nzd, outcome.resent)
+
+
+def mark(file: Bytes, index: int) -> MarkPrices:
+    """The prices of the mark with this index, from 0. A mark that the file does not have is refused with 12."""
+    file, index = _bytes(file), _whole(index, "the index of a mark")
+    if not 0 <= index <= _LARGEST_INDEX:
+        raise ValueError(f"{index} is no index of a mark")
+    said = _library.citronreef_mark(file, len(file), index)
+    if said.refused:
+        raise Refusal(said.refused, said.index)
+    return MarkPrices(
+        price_of(said.previous), price_of(said.final_price), said.number if said.corrected else None, said.change
+    )
+
+
+def find(file: Bytes, check: int) -> Optional[int]:
+    """The first record where the condition of a check, 1 to 13, holds; None where it holds nowhere, or there is no such check."""
+    file, check = _bytes(file), _whole(check, "the number of a check")
+    if not 0 <= check <= _LARGEST_CHECK:
+        return None
+    answer = _library.citronreef_find(file, len(file), check)
+    return answer.index if answer.found else None
+
+
+def sheet(file: Bytes) -> str:
+    """The sheet of a day file, which is one line such as "refused 7 at 0" where the file is refused."""
+    file, amounts, out = _bytes(file), Amounts(), Sheet()
+    length = _library.citronreef_sheet(file, len(file), amounts, MAX_POSITIONS, out, SHEET_SIZE)
+    return ctypes.string_at(out, length).decode("ascii")

@@ -1,0 +1,56 @@
+//! The readable text of a day file: `made` turns a text into a file, `shown` writes the text of any bytes. The text and its grammar
+//! are described in docs/TEXT.md. Whether the records pass the checks is not looked at here.
+
+mod draft;
+mod layout;
+mod lines;
+mod making;
+mod names;
+mod showing;
+#[cfg(test)]
+mod tests;
+mod words;
+
+pub use making::made;
+pub use showing::shown;
+
+use std::error::Error;
+use std::fmt;
+
+/// The line of each record in its text, from 1, in the order of the file.
+#[derive(Clone, Debug, Default, PartialEq, Eq)]
+pub struct Lines {
+    pub marks: Vec<usize>,
+    pub corrections: Vec<usize>,
+    pub positions: Vec<usize>,
+}
+
+/// A file that was made of a text, and where its records stand there.
+#[derive(Clone, Debug, PartialEq, Eq)]
+pub struct Made {
+    pub bytes: Vec<u8>,
+    pub lines: Lines,
+}
+
+/// What is wrong with a line of a text. The words start with the field, as in `field 4: ..`, where one field is wrong; the line's
+/// first word is field 1.
+#[derive(Clone, Debug, PartialEq, Eq)]
+pub struct Wrong {
+    pub line: usize,
+    pub says: String,
+}
+
+impl Wrong {
+    fn at(line: usize, field: usize, says: String) -> Wrong {
+        Wrong { line, says: format!("field {field}: {says}") }
+    }
+}
+
+impl fmt::Display for Wrong {
+    fn fmt(&self, out: &mut fmt::Formatter) -> fmt::Result {
+        let mark = if self.says.starts_with("field ") { ',' } else { ':' };
+        write!(out, "line {}{mark} {}", self.line, self.says)
+    }
+}
+
+impl Error for Wrong {}

@@ -1,0 +1,59 @@
+//! What else is wrong with a refused file, against an independent search for each check by itself.
+
+mod conditions;
+mod days;
+mod process;
+mod table;
+
+use citronreef::settle;
+use days::{damaged, sample};
+use oracles::random::Random;
+use process::run;
+
+/// The number and the index of each further check that an explanation tells, whose words have to be the table's.
+fn told(explanation: &str, words: &[String]) -> Vec<(u32, usize)> {
+    let lines = explanation.lines().skip_while(|line| !line.starts_with("Other conditions that hold")).skip(1);
+    let numbers = lines.map(|line| {
+        let (numbers, says) = line.split_once(": ").expect("numbers and words");
+        let (number, index) = numbers.trim_start().split_once(" at ").expect("two numbers");
+        let number: u32 = number.parse().expect("a number");
+        assert!(says.starts_with(&words[number as usize - 1]), "{line}");
+        (number, index.parse().expect("an index"))
+    });
+    numbers.collect()
+}
+
+#[test]
+fn every_further_check_is_told_with_its_first_record() {
+    let words = table::words();
+    let mut random = Random::new(6_364_136_223);
+    let mut met = [0; 14];
+    for _ in 0..3_000 {
+        let file = damaged(&mut random);
+        if let Err(refusal) = settle(&file, &mut [0; 4_096]) {
+            let found = (1..=13).filter_map(|number| Some((number, conditions::first(&file, number)?)));
+            let found: Vec<(u32, usize)> = found.collect();
+            assert_eq!(found[0], (refusal.number, refusal.index));
+            let others = told(&run(&["explain"], &file).out, &words);
+            assert_eq!(others, found[1..]);
+            others.iter().for_each(|&(number, _)| met[number as usize] += 1);
+        }
+    }
+    assert!(met[3..].iter().all(|&times| times > 2), "found after another, from 3 on: {:?}", &met[3..]);
+}
+
+#[test]
+fn three_mistakes_in_one_day() {
+    let mut day = sample();
+    day.marks[0].today = 957_150;
+    day.corrections[2].mark = 9;
+    day.positions[4].lots = 0;
+    let ran = run(&["explain"], &day.bytes());
+    assert_eq!(ran.status, 1);
+    let expected = "
+Other conditions that hold, each with its first record. One may vanish when the first is mended.
+   9 at 2: a correction names no mark (correction 2, number 15; byte 120 of the file)
+  13 at 4: a position's lots are 0, below -1,000,000 or above 1,000,000 (position 4, account 1003; byte 192 of the file)
+";
+    assert!(ran.out.starts_with("refused 7 at 0: ") && ran.out.ends_with(expected), "{}", ran.out);
+}

@@ -1,0 +1,13 @@
+//! The numbers of the checks in words, as docs/REFUSALS.md has them.
+
+/// The words of each number from 1.
+pub fn words() -> Vec<String> {
+    let rows = include_str!("../../../../docs/REFUSALS.md").lines().filter_map(|line| {
+        let mut cells = line.strip_prefix("| ")?.split(" | ");
+        let number: usize = cells.next()?.parse().ok()?;
+        Some((number, cells.next()?.to_string()))
+    });
+    let (numbers, words): (Vec<usize>, Vec<String>) = rows.unzip();
+    assert_eq!(numbers, (1..=15).collect::<Vec<_>>());
+    words
+}
