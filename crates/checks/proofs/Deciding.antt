@@ -5,14 +5,15 @@ use mathlib.Core.List.{List}
 use Prim.Native.Nat.{ℕ, _+_, _<_}
 use lib.ListN.{length}
 use Rattle.numbers.specs.Folds.{repeating, first, isSome}
-use Rattle.numbers.specs.Checks.{Checks, Check, only, _before_, decisionOf, findingOf}
+use Rattle.numbers.specs.Checks.{Checks, Check, only, _before_, decisionOf, decisionFor, findingOf}
 use Rattle.numbers.specs.declared.Found.{Found}
 use Rattle.numbers.specs.declared.Found.the-variants.{Nothing}
 use Rattle.numbers.specs.declared.deciding.Decision.{Decision}
 use Rattle.numbers.specs.declared.deciding.Decision.the-variants.{Met, Unmet}
+use Rattle.numbers.specs.declared.deciding.Wanted.{Wanted}
 use Rattle.numbers.proofs.Truth.{or-left, or-right}
 use Rattle.numbers.proofs.Searches.{first-next, clear-first, some-clear, found-nothing}
-use Rattle.numbers.proofs.Checks.{unmet, decision-by-steps, decision-only, decision-before}
+use Rattle.numbers.proofs.Checks.{unmet-for, decision-by-steps, decision-only, decision-before}
 use Rattle.dayfile.specs.Limits.{Limits}
 use Rattle.dayfile.specs.Records.{markAt, correctionAt, positionAt}
 use Rattle.dayfile.specs.declared.records.Mark.{Mark}
@@ -78,17 +79,17 @@ position-more ms ps i p q w =
 
 -- ---- the order, by what was found
 
-pub marks-decided : (ms : List Mark) {f : MarkFindings} {o : Found} {d : Decision} → f ≡ markFindings ms (length ms)
-    → o ≡ first (repeating (contractPair ms)) (length ms) → d ≡ markDecision f o → d ≡ decisionOf (markChecks ms)
-marks-decided ms p q e = e ∙ rw (p, q) (decision-by-steps (markChecks ms))
+pub marks-decided : (ms : List Mark) (w : Wanted) {f : MarkFindings} {o : Found} {d : Decision} → f ≡ markFindings ms (length ms)
+    → o ≡ first (repeating (contractPair ms)) (length ms) → d ≡ markDecision f o w → d ≡ decisionFor (markChecks ms) w
+marks-decided ms w p q e = e ∙ rw (p, q) (decision-by-steps (markChecks ms) w)
 
-pub corrections-decided : (ms : List Mark) (cs : List Correction) {f : CorrectionFindings} {o : Found} {d : Decision} → f ≡ correctionFindings ms cs (length cs)
-    → o ≡ first (repeating (clashPair cs)) (length cs) → d ≡ correctionDecision f o → d ≡ decisionOf (correctionChecks ms cs)
-corrections-decided ms cs p q e = e ∙ rw (p, q) (decision-by-steps (correctionChecks ms cs))
+pub corrections-decided : (ms : List Mark) (cs : List Correction) (w : Wanted) {f : CorrectionFindings} {o : Found} {d : Decision} → f ≡ correctionFindings ms cs (length cs)
+    → o ≡ first (repeating (clashPair cs)) (length cs) → d ≡ correctionDecision f o w → d ≡ decisionFor (correctionChecks ms cs) w
+corrections-decided ms cs w p q e = e ∙ rw (p, q) (decision-by-steps (correctionChecks ms cs) w)
 
-pub positions-decided : (ms : List Mark) (ps : List Position) {f : PositionFindings} {d : Decision} → f ≡ positionFindings ms ps (length ps)
-    → d ≡ positionDecision f → d ≡ decisionOf (positionChecks ms ps)
-positions-decided ms ps p e = e ∙ rw p (decision-by-steps (positionChecks ms ps))
+pub positions-decided : (ms : List Mark) (ps : List Position) (w : Wanted) {f : PositionFindings} {d : Decision} → f ≡ positionFindings ms ps (length ps)
+    → d ≡ positionDecision f w → d ≡ decisionFor (positionChecks ms ps) w
+positions-decided ms ps w p e = e ∙ rw p (decision-by-steps (positionChecks ms ps) w)
 
 -- ---- nothing is wrong
 
@@ -96,8 +97,8 @@ module _ (ms : List Mark) (none : someMarkFault ms ≡ false) where
   mark-clear : (i : ℕ) → i < length ms → anyMarkFault (markFaults (markAt ms i)) ≡ false
   mark-clear i h = some-clear (λ i. anyMarkFault (markFaults (markAt ms i))) (length ms) i none h
 
-  pub marks-clear : first (repeating (contractPair ms)) (length ms) ≡ Nothing → decisionOf (markChecks ms) ≡ Unmet
-  marks-clear alone = unmet (markChecks ms) (λ c m. clear c)
+  pub marks-clear : (w : Wanted) → first (repeating (contractPair ms)) (length ms) ≡ Nothing → decisionFor (markChecks ms) w ≡ Unmet
+  marks-clear w alone = unmet-for (markChecks ms) w (λ c m. clear c)
     where
       clear : (c : MarkCheck) → findingOf (markChecks ms) c ≡ Nothing
       clear MarkCode = clear-first _ _ (λ i h. let l = markFaults (markAt ms i) in or-left (l .code) _ (or-left (l .code || l .date) _ (or-left (l .code || l .date || l .high) _ (mark-clear i h))))
@@ -110,8 +111,8 @@ module _ (ms : List Mark) (cs : List Correction) (none : someCorrectionFault ms 
   correction-clear : (i : ℕ) → i < length cs → anyCorrectionFault (correctionFaults ms (correctionAt cs i)) ≡ false
   correction-clear i h = some-clear (λ i. anyCorrectionFault (correctionFaults ms (correctionAt cs i))) (length cs) i none h
 
-  pub corrections-clear : first (repeating (clashPair cs)) (length cs) ≡ Nothing → decisionOf (correctionChecks ms cs) ≡ Unmet
-  corrections-clear apart = unmet (correctionChecks ms cs) (λ c m. clear c)
+  pub corrections-clear : (w : Wanted) → first (repeating (clashPair cs)) (length cs) ≡ Nothing → decisionFor (correctionChecks ms cs) w ≡ Unmet
+  corrections-clear w apart = unmet-for (correctionChecks ms cs) w (λ c m. clear c)
     where
       clear : (c : CorrectionCheck) → findingOf (correctionChecks ms cs) c ≡ Nothing
       clear CorrectionMark = clear-first _ _ (λ i h. or-left (correctionFaults ms (correctionAt cs i) .missing) _ (correction-clear i h))
@@ -122,8 +123,8 @@ module _ (ms : List Mark) (ps : List Position) (none : somePositionFault ms ps �
   position-clear : (i : ℕ) → i < length ps → anyPositionFault (positionFaults ms (positionAt ps i)) ≡ false
   position-clear i h = some-clear (λ i. anyPositionFault (positionFaults ms (positionAt ps i))) (length ps) i none h
 
-  pub positions-clear : decisionOf (positionChecks ms ps) ≡ Unmet
-  positions-clear = unmet (positionChecks ms ps) (λ c m. clear c)
+  pub positions-clear : (w : Wanted) → decisionFor (positionChecks ms ps) w ≡ Unmet
+  positions-clear w = unmet-for (positionChecks ms ps) w (λ c m. clear c)
     where
       clear : (c : PositionCheck) → findingOf (positionChecks ms ps) c ≡ Nothing
       clear PositionMark = clear-first _ _ (λ i h. or-left (positionFaults ms (positionAt ps i) .missing) _ (position-clear i h))

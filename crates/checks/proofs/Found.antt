@@ -7,35 +7,27 @@ use Prim.Native.Nat.{ℕ}
 use native.Mathlib.Omega.{arith}
 use lib.Dec.{ltb}
 use lib.ListN.{length}
-use Rattle.numbers.specs.Folds.{repeating, first, orElse}
-use Rattle.numbers.specs.Checks.{_before_, numberOf, FindsFirst, FindsNothing, findingBy}
+use Rattle.numbers.specs.Order.{orLater, foundIn}
+use Rattle.numbers.specs.Checks.{numberOf, FindsFirst, FindsNothing, decisionFor, findingBy}
 use Rattle.numbers.specs.declared.Found.{Found}
 use Rattle.numbers.specs.declared.Found.the-variants.{At, Nothing}
-use Rattle.numbers.proofs.Checks.{Agree}
-use Rattle.numbers.proofs.Findings.{distinct, finds-exactly, finds-nothing, found-by-steps, found-before}
+use Rattle.numbers.specs.declared.deciding.Decision.{Decision}
+use Rattle.numbers.specs.declared.deciding.Wanted.the-variants.{One}
+use Rattle.numbers.proofs.Checks.{Agree, decision-for-before}
+use Rattle.numbers.proofs.Findings.{distinct, finds-exactly, finds-nothing, found-decided}
 use Rattle.dayfile.specs.Limits.{Limits, fileLimits}
-use Rattle.dayfile.specs.Records.{Lists, listsOf}
+use Rattle.dayfile.specs.Records.{listsOf}
 use Rattle.dayfile.specs.Layout.{headerSize, countsOf, markBytes, correctionBytes, positionBytes, listsOfFile}
-use Rattle.dayfile.specs.Opening.{Short, headerChecks, withinLimits, lookedAt, foundInHeader, countedOf}
-use Rattle.dayfile.specs.Steps.{Limited, Small}
+use Rattle.dayfile.specs.Opening.{Short, headerChecks, withinLimits, lookedAt, headerDecision, countedOf}
+use Rattle.dayfile.specs.Steps.{Small}
 use Rattle.dayfile.specs.declared.file.DayFile.{DayFile}
 use Rattle.dayfile.specs.declared.file.Opened.{Opened}
 use Rattle.dayfile.specs.declared.file.Opened.the-variants.{File, Refused}
-use Rattle.dayfile.specs.declared.records.Mark.{Mark}
-use Rattle.dayfile.specs.declared.records.Correction.{Correction}
-use Rattle.dayfile.specs.declared.records.Position.{Position}
 use Rattle.dayfile.proofs.Opening.{limited}
 use Rattle.dayfile.proofs.Parts.{small}
 use Rattle.dayfile.proofs.Refusals.{header-agrees}
-use Rattle.checks.specs.Marks.{contractPair, markChecks}
-use Rattle.checks.specs.Corrections.{clashPair, correctionChecks}
-use Rattle.checks.specs.Positions.{positionChecks}
-use Rattle.checks.specs.Judging.{recordChecks}
+use Rattle.checks.specs.Judging.{recordChecks, fileChecks}
 use Rattle.checks.specs.Finding.{looked, checksOf, foundOf}
-use Rattle.checks.specs.Faults.{markFindings, correctionFindings, positionFindings, markFound, correctionFound, positionFound}
-use Rattle.checks.specs.declared.marks.MarkFindings.{MarkFindings}
-use Rattle.checks.specs.declared.corrections.CorrectionFindings.{CorrectionFindings}
-use Rattle.checks.specs.declared.positions.PositionFindings.{PositionFindings}
 use Rattle.checks.proofs.Agreement.{file-agrees}
 
 -- ---- in words
@@ -63,28 +55,6 @@ module _ (l : Limits) (f : List ℕ) where
     unfolding foundOf
     find-nothing = finds-nothing (checksOf l f) (looked-agrees (ltb (length f) headerSize) (withinLimits l (countsOf f))) (looked-apart (ltb (length f) headerSize) (withinLimits l (countsOf f))) k
 
--- ---- sections
-
-pub marks-found : (ms : List Mark) (k : ℕ) {f : MarkFindings} {o r : Found} → f ≡ markFindings ms (length ms) → o ≡ first (repeating (contractPair ms)) (length ms)
-    → r ≡ markFound f o k → r ≡ findingBy (markChecks ms) k
-marks-found ms k p q e = e ∙ rw (p, q) (found-by-steps (markChecks ms) k)
-
-pub corrections-found : (ms : List Mark) (cs : List Correction) (k : ℕ) {f : CorrectionFindings} {o r : Found} → f ≡ correctionFindings ms cs (length cs)
-    → o ≡ first (repeating (clashPair cs)) (length cs) → r ≡ correctionFound f o k → r ≡ findingBy (correctionChecks ms cs) k
-corrections-found ms cs k p q e = e ∙ rw (p, q) (found-by-steps (correctionChecks ms cs) k)
-
-pub positions-found : (ms : List Mark) (ps : List Position) (k : ℕ) {f : PositionFindings} {r : Found} → f ≡ positionFindings ms ps (length ps)
-    → r ≡ positionFound f k → r ≡ findingBy (positionChecks ms ps) k
-positions-found ms ps k p e = e ∙ rw p (found-by-steps (positionChecks ms ps) k)
-
-pub records-found : (ls : Lists) (k : ℕ) {a b c d e : Found} → a ≡ findingBy (markChecks (ls .marks)) k → b ≡ findingBy (correctionChecks (ls .marks) (ls .corrections)) k
-    → c ≡ findingBy (positionChecks (ls .marks) (ls .positions)) k → d ≡ orElse b c → e ≡ orElse a d → e ≡ findingBy (recordChecks ls) k
-records-found ls k p q r s t =
-    let m = markChecks (ls .marks) in
-    let c = correctionChecks (ls .marks) (ls .corrections) in
-    let n = positionChecks (ls .marks) (ls .positions) in
-    t ∙ rw (p, s, q, r) (sym (found-before m (c before n) k ∙ ap (orElse (findingBy m k)) (found-before c n k)))
-
 -- ---- a file
 
 module _ (f : List ℕ) where
@@ -102,22 +72,25 @@ module _ (f : List ℕ) where
 
   -- the header alone
   module _ (k : ℕ) where
-    by-header : (short inside : Bool) {n : ℕ} → Counts short inside ≡ Refused n → findingBy (lookedAt fileLimits f short) k ≡ findingBy (looked fileLimits f short inside) k
-    by-header true inside p = refl
-    by-header false false p = refl
+    by-header : (short inside : Bool) {n : ℕ} → Counts short inside ≡ Refused n
+        → foundIn (decisionFor (lookedAt fileLimits f short) (One k)) ≡ findingBy (looked fileLimits f short inside) k
+    by-header true inside p = found-decided (lookedAt fileLimits f true) k
+    by-header false false p = found-decided (lookedAt fileLimits f false) k
     by-header false true p = absurd (let z : _≡_ {A = ℕ} 0 1 = cc in omega arith)
 
-    pub found-in-header : {n : ℕ} {r : Found} → countedOf fileLimits f ≡ Refused n → r ≡ foundInHeader fileLimits f k → r ≡ foundOf fileLimits f k
-    unfolding countedOf foundInHeader foundOf
-    found-in-header p e = e ∙ by-header (ltb (length f) headerSize) (withinLimits fileLimits (countsOf f)) p
+    pub found-in-header : {n : ℕ} {h : Decision} {r : Found} → countedOf fileLimits f ≡ Refused n → h ≡ headerDecision fileLimits f (One k) → r ≡ foundIn h → r ≡ foundOf fileLimits f k
+    unfolding countedOf headerDecision foundOf
+    found-in-header o p e = e ∙ ap foundIn p ∙ by-header (ltb (length f) headerSize) (withinLimits fileLimits (countsOf f)) o
 
   -- the header, then the records
   module _ {d : DayFile} (o : countedOf fileLimits f ≡ File d) {m c p : List ℕ} (ms : m ≡ markBytes f d) (cs : c ≡ correctionBytes f d) (ps : p ≡ positionBytes f d) where
     pub counted-small : Small (listsOf m c p)
     counted-small = let (a, b, e) = counts-are o in rw (ms, cs, ps) (small f d (limited d (rw e at b)))
 
-    pub found-in-file : (k : ℕ) {h r s : Found} → h ≡ foundInHeader fileLimits f k → r ≡ findingBy (recordChecks (listsOf m c p)) k → s ≡ orElse h r → s ≡ foundOf fileLimits f k
-    unfolding foundInHeader foundOf
-    found-in-file k h r s =
+    pub found-in-file : (k : ℕ) {h r s : Decision} {t : Found} → h ≡ headerDecision fileLimits f (One k) → r ≡ decisionFor (recordChecks (listsOf m c p)) (One k) → s ≡ orLater h r
+        → t ≡ foundIn s → t ≡ foundOf fileLimits f k
+    unfolding headerDecision foundOf
+    found-in-file k h r s t =
         let (a, b, e) = counts-are o in
-        s ∙ rw (h, r, ms, cs, ps, ← e, a, b) (sym (found-before (headerChecks fileLimits f) (recordChecks (listsOfFile f)) k))
+        t ∙ rw (s, h, r, ms, cs, ps, ← e, a, b)
+        (ap foundIn (sym (decision-for-before (headerChecks fileLimits f) (recordChecks (listsOfFile f)) (One k))) ∙ found-decided (fileChecks fileLimits f) k)

@@ -3,9 +3,10 @@ use mathlib.Core.Path.{_≡_, sym, ap, _∙_}
 use mathlib.Core.List.{List}
 use Prim.Native.Nat.{ℕ}
 use Rattle.numbers.specs.Order.{orLater}
-use Rattle.numbers.specs.Checks.{_before_, decisionOf}
+use Rattle.numbers.specs.Checks.{_before_, decisionOf, decisionFor}
 use Rattle.numbers.specs.declared.deciding.Decision.{Decision}
-use Rattle.numbers.proofs.Checks.{decision-before}
+use Rattle.numbers.specs.declared.deciding.Wanted.{Wanted}
+use Rattle.numbers.proofs.Checks.{decision-before, decision-for-before}
 use Rattle.dayfile.specs.Limits.{fileLimits}
 use Rattle.dayfile.specs.Records.{Lists, correctionsIn, listsOf}
 use Rattle.dayfile.specs.Layout.{markBytes, correctionBytes, positionBytes, listsOfFile}
@@ -25,13 +26,13 @@ use Rattle.checks.specs.declared.judging.Judged.the-variants.{Refused}
 
 -- ---- three sections
 
-pub records-decided : (ls : Lists) {a b c d e : Decision} → a ≡ decisionOf (markChecks (ls .marks)) → b ≡ decisionOf (correctionChecks (ls .marks) (ls .corrections))
-    → c ≡ decisionOf (positionChecks (ls .marks) (ls .positions)) → d ≡ orLater b c → e ≡ orLater a d → e ≡ decisionOf (recordChecks ls)
-records-decided ls p q r s t =
+pub records-decided : (ls : Lists) (w : Wanted) {a b c d e : Decision} → a ≡ decisionFor (markChecks (ls .marks)) w → b ≡ decisionFor (correctionChecks (ls .marks) (ls .corrections)) w
+    → c ≡ decisionFor (positionChecks (ls .marks) (ls .positions)) w → d ≡ orLater b c → e ≡ orLater a d → e ≡ decisionFor (recordChecks ls) w
+records-decided ls w p q r s t =
     let m = markChecks (ls .marks) in
     let k = correctionChecks (ls .marks) (ls .corrections) in
     let n = positionChecks (ls .marks) (ls .positions) in
-    t ∙ rw (p, s, q, r) (sym (decision-before m (k before n) ∙ ap (orLater (decisionOf m)) (decision-before k n)))
+    t ∙ rw (p, s, q, r) (sym (decision-for-before m (k before n) w ∙ ap (orLater (decisionFor m w)) (decision-for-before k n w)))
 
 pub judged-by : (d : DayFile) (n : ℕ) {x y z : Decision} {r : Judged} → x ≡ z → x ≡ y → r ≡ judgedBy d n y → r ≡ judgedBy d n z
 judged-by d n e f g = rw (← e, f) g

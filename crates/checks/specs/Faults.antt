@@ -6,11 +6,12 @@ use mathlib.Core.List.{List}
 use lib.Dec.{leb, ltb, eqb}
 use lib.ListN.{length}
 use Rattle.numbers.specs.Folds.{orElse, first, last, some, Holds}
-use Rattle.numbers.specs.Order.{orFound, orWanted}
+use Rattle.numbers.specs.Order.{orFound, sought}
 use Rattle.numbers.specs.declared.Found.{Found}
 use Rattle.numbers.specs.declared.Found.the-variants.{At, Nothing}
 use Rattle.numbers.specs.declared.deciding.Decision.{Decision}
 use Rattle.numbers.specs.declared.deciding.Decision.the-variants.{Unmet}
+use Rattle.numbers.specs.declared.deciding.Wanted.{Wanted}
 use Rattle.products.specs.Products.{hasMonth}
 use Rattle.products.specs.declared.table.Product.{Product}
 use Rattle.dayfile.specs.Limits.{fileLimits, yearLimit, lotsLimit}
@@ -114,26 +115,17 @@ pub record WithPosition (f : PositionFindings) (l : PositionFaults) (i : ℕ) (r
   pub missing : r .missing ≡ also (f .missing) (l .missing) i
   pub lots : r .lots ≡ also (f .lots) (l .lots) i
 
--- the checks one after the other, by what was found
-abbrev pub markDecision : MarkFindings → Found → Decision
-markDecision f repeated = orFound (orFound (orFound (orFound (orFound Unmet 4 (f .code)) 5 (f .date)) 6 (f .high)) 7 (f .off)) 8 repeated
+-- the checks one after the other, those that are looked at, by what was found
+abbrev pub markDecision : MarkFindings → Found → Wanted → Decision
+markDecision f repeated w =
+    orFound (orFound (orFound (orFound (orFound Unmet 4 (sought w 4 (f .code))) 5 (sought w 5 (f .date))) 6 (sought w 6 (f .high))) 7 (sought w 7 (f .off)))
+    8 (sought w 8 repeated)
 
-abbrev pub correctionDecision : CorrectionFindings → Found → Decision
-correctionDecision f clash = orFound (orFound (orFound Unmet 9 (f .missing)) 10 (f .price)) 11 clash
+abbrev pub correctionDecision : CorrectionFindings → Found → Wanted → Decision
+correctionDecision f clash w = orFound (orFound (orFound Unmet 9 (sought w 9 (f .missing))) 10 (sought w 10 (f .price))) 11 (sought w 11 clash)
 
-abbrev pub positionDecision : PositionFindings → Decision
-positionDecision f = orFound (orFound Unmet 12 (f .missing)) 13 (f .lots)
-
--- what check k found, among what each found
-abbrev pub markFound : MarkFindings → Found → ℕ → Found
-markFound f repeated k =
-    orWanted (orWanted (orWanted (orWanted (orWanted Nothing (eqb k 4) (f .code)) (eqb k 5) (f .date)) (eqb k 6) (f .high)) (eqb k 7) (f .off)) (eqb k 8) repeated
-
-abbrev pub correctionFound : CorrectionFindings → Found → ℕ → Found
-correctionFound f clash k = orWanted (orWanted (orWanted Nothing (eqb k 9) (f .missing)) (eqb k 10) (f .price)) (eqb k 11) clash
-
-abbrev pub positionFound : PositionFindings → ℕ → Found
-positionFound f k = orWanted (orWanted Nothing (eqb k 12) (f .missing)) (eqb k 13) (f .lots)
+abbrev pub positionDecision : PositionFindings → Wanted → Decision
+positionDecision f w = orFound (orFound Unmet 12 (sought w 12 (f .missing))) 13 (sought w 13 (f .lots))
 
 -- ---- arrays
 

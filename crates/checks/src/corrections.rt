@@ -10,17 +10,18 @@ use dayfile::correction_count;
 use dayfile::mark_count;
 use numbers::Decision;
 use numbers::Found;
+use numbers::Wanted;
 use pairs::Key;
 use pairs::earlier;
 use products::off_tick;
 ghost use mathlib.Core.Path.{_≡_};
 ghost use Prim.Native.Nat.{_≤_};
 ghost use lib.ListN.{length};
-ghost use Rattle.numbers.specs.Checks.{decisionOf, findingBy};
+ghost use Rattle.numbers.specs.Checks.{decisionFor};
 ghost use Rattle.dayfile.specs.Limits.{fileLimits};
 ghost use Rattle.dayfile.specs.Records.{marksIn, correctionsIn};
 ghost use Rattle.checks.specs.Corrections.{correctionChecks, correctionsJudged, resentOf};
-ghost use Rattle.checks.specs.Faults.{correctionFaults, anyCorrectionFault, someCorrectionFault, correctionFindings, WithCorrection, correctionDecision, correctionFound, Ticks};
+ghost use Rattle.checks.specs.Faults.{correctionFaults, anyCorrectionFault, someCorrectionFault, correctionFindings, WithCorrection, correctionDecision, Ticks};
 
 // What is wrong with a correction by itself.
 pub struct CorrectionFaults {
@@ -109,16 +110,16 @@ fn find_first(
     f
 }
 
-// The checks in their order. The first correction that clashes with an earlier one is known.
-fn decide(f: CorrectionFindings, clash: Found) -> Decision
-    ensures { λ r. ⌜ r ≡ correctionDecision f clash ⌝ }
+// The checks that are looked at, in their order. The first correction that clashes with an earlier one is known.
+fn decide(f: CorrectionFindings, clash: Found, wanted: Wanted) -> Decision
+    ensures { λ r. ⌜ r ≡ correctionDecision f clash wanted ⌝ }
 {
     let missing = f.missing;
     let price = f.price;
     let d = Decision::Unmet;
-    let d = d.or_found(9, missing);
-    let d = d.or_found(10, price);
-    d.or_found(11, clash)
+    let d = d.or_found(wanted, 9, missing);
+    let d = d.or_found(wanted, 10, price);
+    d.or_found(wanted, 11, clash)
 }
 
 // What the checks over corrections decide, and how many corrections bear a number that an earlier one bears.
@@ -127,14 +128,15 @@ pub struct CorrectionsJudged {
     pub resent: usize,
 }
 
-// What the checks decide of corrections within the file's limit, given the marks and their ticks.
+// What the checks decide of corrections within the file's limit, those that are looked at, given the marks and their ticks.
 pub(crate) fn decide_corrections(
     marks: &[u8],
     ticks: &[u32; DayFile::MAX_MARKS],
     corrections: &[u8],
+    wanted: Wanted,
 ) -> CorrectionsJudged
     requires { ⌜ Ticks (marksIn (now marks)) (now ticks) × (length (correctionsIn (now corrections)) ≤ fileLimits .corrections) ⌝ }
-    ensures { λ r. ⌜ (r .decision ≡ decisionOf (correctionChecks (marksIn (now (marks .entry))) (correctionsIn (now (corrections .entry)))))
+    ensures { λ r. ⌜ (r .decision ≡ decisionFor (correctionChecks (marksIn (now (marks .entry))) (correctionsIn (now (corrections .entry)))) wanted)
         × (r .resent ≡ resentOf (correctionsIn (now (corrections .entry)))) ⌝ }
 {
     let bad = some_fault(marks, ticks, corrections);
@@ -144,7 +146,7 @@ pub(crate) fn decide_corrections(
     let resent = resent_count(corrections, &numbers);
     if bad | clash.is_some() {
         return CorrectionsJudged {
-            decision: decide(find_first(marks, ticks, corrections), clash),
+            decision: decide(find_first(marks, ticks, corrections), clash, wanted),
             resent,
         };
     }
@@ -152,31 +154,6 @@ pub(crate) fn decide_corrections(
         decision: Decision::Unmet,
         resent,
     }
-}
-
-// What check k found, among what each found.
-fn found_by(f: CorrectionFindings, clash: Found, k: u32) -> Found
-    ensures { λ r. ⌜ r ≡ correctionFound f clash k ⌝ }
-{
-    let missing = f.missing;
-    let price = f.price;
-    let o = Found::Nothing;
-    let o = o.or_wanted(k == 9, missing);
-    let o = o.or_wanted(k == 10, price);
-    o.or_wanted(k == 11, clash)
-}
-
-// The first correction where the condition of check k holds, of corrections within the file's limit, given the marks.
-pub(crate) fn find_in_corrections(marks: &[u8], corrections: &[u8], k: u32) -> Found
-    requires { ⌜ (length (marksIn (now marks)) ≤ fileLimits .marks) × (length (correctionsIn (now corrections)) ≤ fileLimits .corrections) ⌝ }
-    ensures { λ r. ⌜ r ≡ findingBy (correctionChecks (marksIn (now (marks .entry))) (correctionsIn (now (corrections .entry)))) k ⌝ }
-{
-    let mut ticks = [0u32; DayFile::MAX_MARKS];
-    crate::marks::some_fault(marks, &mut ticks);
-    let mut numbers = [0u16; DayFile::MAX_CORRECTIONS];
-    earlier(corrections, Correction::SIZE, Key::Four, &mut numbers);
-    let clash = first_clash(corrections, &numbers);
-    found_by(find_first(marks, &ticks, corrections), clash, k)
 }
 
 // What the checks decide of a list of corrections, given the marks: 2 where a file may not have as many of either, then 9 to 11. The resent
@@ -197,5 +174,5 @@ pub fn check_corrections(marks: &[u8], corrections: &[u8]) -> CorrectionsJudged
     }
     let mut ticks = [0u32; DayFile::MAX_MARKS];
     crate::marks::some_fault(marks, &mut ticks);
-    decide_corrections(marks, &ticks, corrections)
+    decide_corrections(marks, &ticks, corrections, Wanted::All)
 }

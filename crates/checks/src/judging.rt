@@ -6,8 +6,9 @@ use dayfile::DayFile;
 use dayfile::Opened;
 use dayfile::open_file;
 use numbers::Decision;
+use numbers::Wanted;
 ghost use mathlib.Core.Path.{_≡_};
-ghost use Rattle.numbers.specs.Checks.{decisionOf};
+ghost use Rattle.numbers.specs.Checks.{decisionOf, decisionFor};
 ghost use Rattle.dayfile.specs.Limits.{fileLimits};
 ghost use Rattle.dayfile.specs.Records.{listsOf, correctionsIn};
 ghost use Rattle.dayfile.specs.Steps.{Small};
@@ -21,22 +22,47 @@ pub enum Judged {
     Refused { number: u32, index: usize },
 }
 
-// The checks over the records, section by section.
+// What the checks over records decide, and how many corrections bear a number that an earlier one bears.
+pub struct RecordsJudged {
+    pub decision: Decision,
+    pub resent: usize,
+}
+
+// The checks over the records that are looked at, section by section.
+pub(crate) fn decide_records(
+    marks: &[u8],
+    corrections: &[u8],
+    positions: &[u8],
+    wanted: Wanted,
+) -> RecordsJudged
+    requires { ⌜ Small (listsOf (now marks) (now corrections) (now positions)) ⌝ }
+    ensures { λ r. ⌜ (r .decision ≡ decisionFor (recordChecks (listsOf (now (marks .entry)) (now (corrections .entry)) (now (positions .entry)))) wanted)
+        × (r .resent ≡ resentOf (correctionsIn (now (corrections .entry)))) ⌝ }
+{
+    let mut ticks = [0u32; DayFile::MAX_MARKS];
+    let of_marks = decide_marks(marks, &mut ticks, wanted);
+    let of_corrections = decide_corrections(marks, &ticks, corrections, wanted);
+    let of_positions = decide_positions(marks, positions, wanted);
+    let decision = of_corrections.decision;
+    RecordsJudged {
+        decision: of_marks.or(decision.or(of_positions)),
+        resent: of_corrections.resent,
+    }
+}
+
+// What all checks over the records say.
 fn judge_records(marks: &[u8], corrections: &[u8], positions: &[u8], counts: DayFile) -> Judged
     requires { ⌜ Small (listsOf (now marks) (now corrections) (now positions)) ⌝ }
     ensures { λ r. ⌜ r ≡ judgedBy counts (resentOf (correctionsIn (now (corrections .entry))))
         (decisionOf (recordChecks (listsOf (now (marks .entry)) (now (corrections .entry)) (now (positions .entry))))) ⌝ }
 {
-    let mut ticks = [0u32; DayFile::MAX_MARKS];
-    let of_marks = decide_marks(marks, &mut ticks);
-    let of_corrections = decide_corrections(marks, &ticks, corrections);
-    let of_positions = decide_positions(marks, positions);
-    let decision = of_corrections.decision;
-    match of_marks.or(decision.or(of_positions)) {
+    let judged = decide_records(marks, corrections, positions, Wanted::All);
+    let decision = judged.decision;
+    match decision {
         Decision::Met { number, index } => Judged::Refused { number, index },
         Decision::Unmet => Judged::Sound {
             counts,
-            resent: of_corrections.resent,
+            resent: judged.resent,
         },
     }
 }

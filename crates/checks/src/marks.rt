@@ -6,6 +6,7 @@ use dayfile::mark_at;
 use dayfile::mark_count;
 use numbers::Decision;
 use numbers::Found;
+use numbers::Wanted;
 use pairs::Key;
 use pairs::first_repeated;
 use products::PRICE_LIMIT;
@@ -16,12 +17,12 @@ use products::off_tick;
 ghost use mathlib.Core.Path.{_≡_};
 ghost use Prim.Native.Nat.{_≤_};
 ghost use lib.ListN.{length};
-ghost use Rattle.numbers.specs.Checks.{decisionOf, findingBy};
+ghost use Rattle.numbers.specs.Checks.{decisionOf, decisionFor};
 ghost use Rattle.dayfile.specs.Limits.{fileLimits};
 ghost use Rattle.dayfile.specs.Records.{marksIn};
 ghost use Rattle.checks.specs.Table.{aboveLimit};
 ghost use Rattle.checks.specs.Marks.{highMark, markChecks, markListChecks};
-ghost use Rattle.checks.specs.Faults.{markFaults, faultsBy, anyMarkFault, someMarkFault, markFindings, WithMark, markDecision, markFound, Ticks};
+ghost use Rattle.checks.specs.Faults.{markFaults, faultsBy, anyMarkFault, someMarkFault, markFindings, WithMark, markDecision, Ticks};
 
 const YEAR_LIMIT: u8 = 99;
 
@@ -147,62 +148,38 @@ fn find_first(marks: &[u8]) -> MarkFindings
     f
 }
 
-// The checks in their order. The first mark that repeats an earlier one is known.
-fn decide(f: MarkFindings, repeated: Found) -> Decision
-    ensures { λ r. ⌜ r ≡ markDecision f repeated ⌝ }
+// The checks that are looked at, in their order. The first mark that repeats an earlier one is known.
+fn decide(f: MarkFindings, repeated: Found, wanted: Wanted) -> Decision
+    ensures { λ r. ⌜ r ≡ markDecision f repeated wanted ⌝ }
 {
     let code = f.code;
     let date = f.date;
     let high = f.high;
     let off = f.off;
     let d = Decision::Unmet;
-    let d = d.or_found(4, code);
-    let d = d.or_found(5, date);
-    let d = d.or_found(6, high);
-    let d = d.or_found(7, off);
-    d.or_found(8, repeated)
+    let d = d.or_found(wanted, 4, code);
+    let d = d.or_found(wanted, 5, date);
+    let d = d.or_found(wanted, 6, high);
+    let d = d.or_found(wanted, 7, off);
+    d.or_found(wanted, 8, repeated)
 }
 
-// What the checks over marks within the file's limit decide. Writes the ticks of all marks.
-pub(crate) fn decide_marks(marks: &[u8], ticks: &mut [u32; DayFile::MAX_MARKS]) -> Decision
+// What the checks over marks within the file's limit decide, those that are looked at. Writes the ticks of all marks.
+pub(crate) fn decide_marks(
+    marks: &[u8],
+    ticks: &mut [u32; DayFile::MAX_MARKS],
+    wanted: Wanted,
+) -> Decision
     requires { ⌜ (length (marksIn (now marks)) ≤ fileLimits .marks) × (length (now ticks) ≡ fileLimits .marks) ⌝ }
-    ensures { λ r. ⌜ (r ≡ decisionOf (markChecks (marksIn (now (marks .entry)))))
+    ensures { λ r. ⌜ (r ≡ decisionFor (markChecks (marksIn (now (marks .entry)))) wanted)
         × Ticks (marksIn (now (marks .entry))) (now (ticks .exit)) ⌝ }
 {
     let bad = some_fault(marks, ticks);
     let repeated = first_repeated(marks, Mark::SIZE, Key::Four);
     if bad | repeated.is_some() {
-        return decide(find_first(marks), repeated);
+        return decide(find_first(marks), repeated, wanted);
     }
     Decision::Unmet
-}
-
-// What check k found, among what each found.
-fn found_by(f: MarkFindings, repeated: Found, k: u32) -> Found
-    ensures { λ r. ⌜ r ≡ markFound f repeated k ⌝ }
-{
-    let code = f.code;
-    let date = f.date;
-    let high = f.high;
-    let off = f.off;
-    let o = Found::Nothing;
-    let o = o.or_wanted(k == 4, code);
-    let o = o.or_wanted(k == 5, date);
-    let o = o.or_wanted(k == 6, high);
-    let o = o.or_wanted(k == 7, off);
-    o.or_wanted(k == 8, repeated)
-}
-
-// The first mark where the condition of check k holds, of marks within the file's limit.
-pub(crate) fn find_in_marks(marks: &[u8], k: u32) -> Found
-    requires { ⌜ length (marksIn (now marks)) ≤ fileLimits .marks ⌝ }
-    ensures { λ r. ⌜ r ≡ findingBy (markChecks (marksIn (now (marks .entry)))) k ⌝ }
-{
-    found_by(
-        find_first(marks),
-        first_repeated(marks, Mark::SIZE, Key::Four),
-        k,
-    )
 }
 
 // What the checks decide of a list of marks: 2 where a file may not have as many, then 4 to 8.
@@ -216,5 +193,5 @@ pub fn check_marks(marks: &[u8]) -> Decision
         };
     }
     let mut ticks = [0u32; DayFile::MAX_MARKS];
-    decide_marks(marks, &mut ticks)
+    decide_marks(marks, &mut ticks, Wanted::All)
 }

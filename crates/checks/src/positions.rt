@@ -7,14 +7,15 @@ use dayfile::position_count;
 use dayfile::raw_position_at;
 use numbers::Decision;
 use numbers::Found;
+use numbers::Wanted;
 ghost use mathlib.Core.Path.{_≡_};
 ghost use Prim.Native.Nat.{_≤_};
 ghost use lib.ListN.{length};
-ghost use Rattle.numbers.specs.Checks.{decisionOf, findingBy};
+ghost use Rattle.numbers.specs.Checks.{decisionOf, decisionFor};
 ghost use Rattle.dayfile.specs.Limits.{fileLimits};
 ghost use Rattle.dayfile.specs.Records.{marksIn, positionsIn};
 ghost use Rattle.checks.specs.Positions.{positionChecks, positionListChecks};
-ghost use Rattle.checks.specs.Faults.{rawFaults, anyPositionFault, somePositionFault, positionFindings, WithPosition, positionDecision, positionFound};
+ghost use Rattle.checks.specs.Faults.{rawFaults, anyPositionFault, somePositionFault, positionFindings, WithPosition, positionDecision};
 
 // The most lots that a position may have, bought or sold.
 const LOTS_LIMIT: u32 = 1_000_000;
@@ -107,45 +108,26 @@ fn find_first(marks: &[u8], positions: &[u8]) -> PositionFindings
     f
 }
 
-// The checks in their order.
-fn decide(f: PositionFindings) -> Decision
-    ensures { λ r. ⌜ r ≡ positionDecision f ⌝ }
+// The checks that are looked at, in their order.
+fn decide(f: PositionFindings, wanted: Wanted) -> Decision
+    ensures { λ r. ⌜ r ≡ positionDecision f wanted ⌝ }
 {
     let missing = f.missing;
     let lots = f.lots;
     let d = Decision::Unmet;
-    let d = d.or_found(12, missing);
-    d.or_found(13, lots)
+    let d = d.or_found(wanted, 12, missing);
+    d.or_found(wanted, 13, lots)
 }
 
-// What the checks decide of positions within the file's limit, given the marks.
-pub(crate) fn decide_positions(marks: &[u8], positions: &[u8]) -> Decision
+// What the checks decide of positions within the file's limit, those that are looked at, given the marks.
+pub(crate) fn decide_positions(marks: &[u8], positions: &[u8], wanted: Wanted) -> Decision
     requires { ⌜ (length (marksIn (now marks)) ≤ fileLimits .marks) × (length (positionsIn (now positions)) ≤ fileLimits .positions) ⌝ }
-    ensures { λ r. ⌜ r ≡ decisionOf (positionChecks (marksIn (now (marks .entry))) (positionsIn (now (positions .entry)))) ⌝ }
+    ensures { λ r. ⌜ r ≡ decisionFor (positionChecks (marksIn (now (marks .entry))) (positionsIn (now (positions .entry)))) wanted ⌝ }
 {
     if some_fault(marks, positions) {
-        return decide(find_first(marks, positions));
+        return decide(find_first(marks, positions), wanted);
     }
     Decision::Unmet
-}
-
-// What check k found, among what each found.
-fn found_by(f: PositionFindings, k: u32) -> Found
-    ensures { λ r. ⌜ r ≡ positionFound f k ⌝ }
-{
-    let missing = f.missing;
-    let lots = f.lots;
-    let o = Found::Nothing;
-    let o = o.or_wanted(k == 12, missing);
-    o.or_wanted(k == 13, lots)
-}
-
-// The first position where the condition of check k holds, given marks within the file's limit.
-pub(crate) fn find_in_positions(marks: &[u8], positions: &[u8], k: u32) -> Found
-    requires { ⌜ length (marksIn (now marks)) ≤ fileLimits .marks ⌝ }
-    ensures { λ r. ⌜ r ≡ findingBy (positionChecks (marksIn (now (marks .entry))) (positionsIn (now (positions .entry)))) k ⌝ }
-{
-    found_by(find_first(marks, positions), k)
 }
 
 // What the checks decide of a list of positions, given the marks: 2 where a file may not have as many of either, then 12 and 13.
@@ -160,5 +142,5 @@ pub fn check_positions(marks: &[u8], positions: &[u8]) -> Decision
             index: 0,
         };
     }
-    decide_positions(marks, positions)
+    decide_positions(marks, positions, Wanted::All)
 }

@@ -3,17 +3,20 @@ use mathlib.Core.Path.{_≡_, refl, sym, ap, _∙_}
 use mathlib.Core.Bool.{Bool, true, false, cond, not}
 use mathlib.Core.List.{List}
 use Prim.Native.Nat.{ℕ, _≤_, _<_}
-use lib.Dec.{eqb}
 use lib.ListN.{length}
 use borrow.Author.Tests.{lt-ltb, le-ltb}
-use Rattle.numbers.specs.Folds.{first, orElse}
-use Rattle.numbers.specs.Checks.{findingBy}
-use Rattle.numbers.specs.declared.Found.{Found}
+use Rattle.numbers.specs.Folds.{first}
+use Rattle.numbers.specs.Order.{pick, orFound, sought}
+use Rattle.numbers.specs.Checks.{decisionFor}
 use Rattle.numbers.specs.declared.Found.the-variants.{At, Nothing}
-use Rattle.numbers.proofs.Findings.{found-by-steps}
+use Rattle.numbers.specs.declared.deciding.Decision.{Decision}
+use Rattle.numbers.specs.declared.deciding.Decision.the-variants.{Met, Unmet}
+use Rattle.numbers.specs.declared.deciding.Wanted.{Wanted}
+use Rattle.numbers.proofs.Order.{nothing-sought}
+use Rattle.numbers.proofs.Checks.{decision-by-steps}
 use Rattle.dayfile.specs.Limits.{fileLimits}
 use Rattle.dayfile.specs.Layout.{countsOf, headerSize}
-use Rattle.dayfile.specs.Opening.{withinLimits, asLaidOut, openedOf, headerChecks, lookedAt, foundInHeader, foundByTests, countedOf}
+use Rattle.dayfile.specs.Opening.{withinLimits, asLaidOut, openedOf, headerChecks, lookedAt, headerDecision, decidedByTests, countedOf}
 use Rattle.dayfile.specs.declared.file.DayFile.{DayFile}
 use Rattle.dayfile.specs.declared.file.Opened.{Opened}
 use Rattle.dayfile.specs.declared.file.Opened.the-variants.{File, Refused}
@@ -34,29 +37,25 @@ refused-1 s h = sym (opened-by-tests fileLimits s ∙ rw (lt-ltb (length s) head
 
 -- ---- each check by itself
 
-module _ (s : List ℕ) (k : ℕ) where
-  none-more : (o : Found) (a b : Bool) → orElse (orElse o (cond a Nothing Nothing)) (cond b Nothing Nothing) ≡ orElse o Nothing
-  none-more (At i) a b = refl
-  none-more Nothing true true = refl
-  none-more Nothing true false = refl
-  none-more Nothing false true = refl
-  none-more Nothing false false = refl
+module _ (s : List ℕ) (w : Wanted) where
+  none-more : (d : Decision) → orFound (orFound d 2 (sought w 2 Nothing)) 3 (sought w 3 Nothing) ≡ d
+  none-more (Met k i) = refl
+  none-more Unmet = rw (nothing-sought w 2, nothing-sought w 3)
 
-  pub found-short : length s < headerSize → {r : Found} → r ≡ foundByTests true false false k → r ≡ foundInHeader fileLimits s k
-  unfolding foundInHeader findingBy first
-  found-short h e =
+  pub decided-short : length s < headerSize → {r : Decision} → r ≡ decidedByTests true false false w → r ≡ headerDecision fileLimits s w
+  unfolding headerDecision decisionFor first
+  decided-short h e =
       let short = lt-ltb (length s) headerSize h in
-      e ∙ rw short
-      (none-more (cond (eqb k 1) (At 0) Nothing) (eqb k 2) (eqb k 3)
-      ∙ ap (λ b. orElse (cond (eqb k 1) (cond b (At 0) Nothing) Nothing) Nothing) (sym short))
+      e ∙ none-more (orFound Unmet 1 (sought w 1 (At 0)))
+      ∙ rw short (ap (λ b. pick (sought w 1 (cond b (At 0) Nothing)) 1 Unmet) (sym short))
 
-  pub found-whole : {d : DayFile} → headerSize ≤ length s → d ≡ countsOf s → {a b : Bool} → a ≡ withinLimits fileLimits d → b ≡ asLaidOut s d
-      → {r : Found} → r ≡ foundByTests false (not a) (not b) k → r ≡ foundInHeader fileLimits s k
-  unfolding foundInHeader first
-  found-whole {d} h q {a} {b} p t e =
+  pub decided-whole : {d : DayFile} → headerSize ≤ length s → d ≡ countsOf s → {a b : Bool} → a ≡ withinLimits fileLimits d → b ≡ asLaidOut s d
+      → {r : Decision} → r ≡ decidedByTests false (not a) (not b) w → r ≡ headerDecision fileLimits s w
+  unfolding headerDecision first
+  decided-whole {d} h q {a} {b} p t e =
       let long = le-ltb (length s) headerSize h in
-      e ∙ ap (λ c. foundByTests c (not a) (not b) k) (sym long) ∙ rw (p, t, q) (found-by-steps (headerChecks fileLimits s) k)
-      ∙ ap (λ c. findingBy (lookedAt fileLimits s c) k) (sym long)
+      e ∙ ap (λ c. decidedByTests c (not a) (not b) w) (sym long) ∙ rw (p, t, q) (decision-by-steps (headerChecks fileLimits s) w)
+      ∙ ap (λ c. decisionFor (lookedAt fileLimits s c) w) (sym long)
 
 module _ (s : List ℕ) where
   pub counted-short : length s < headerSize → Refused 1 ≡ countedOf fileLimits s

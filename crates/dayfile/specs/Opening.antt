@@ -6,12 +6,12 @@ use Prim.Native.Nat.{ℕ, _<_}
 use lib.Dec.{leb, ltb, eqb}
 use lib.ListN.{length}
 use Rattle.numbers.specs.Bytes.{u32At}
-use Rattle.numbers.specs.Order.{orWanted}
-use Rattle.numbers.specs.Checks.{Check, Checks, only, decisionOf, findingBy}
-use Rattle.numbers.specs.declared.Found.{Found}
+use Rattle.numbers.specs.Order.{orFound, sought}
+use Rattle.numbers.specs.Checks.{Check, Checks, only, decisionOf, decisionFor}
 use Rattle.numbers.specs.declared.Found.the-variants.{At, Nothing}
 use Rattle.numbers.specs.declared.deciding.Decision.{Decision}
 use Rattle.numbers.specs.declared.deciding.Decision.the-variants.{Met, Unmet}
+use Rattle.numbers.specs.declared.deciding.Wanted.{Wanted}
 use Rattle.dayfile.specs.Limits.{Limits}
 use Rattle.dayfile.specs.Layout.{headerSize, countsOf, correctionsStart, positionsStart, lengthOf}
 use Rattle.dayfile.specs.declared.file.DayFile.{DayFile}
@@ -70,13 +70,15 @@ abbrev pub lookedAt : Limits → List ℕ → Bool → Checks
 lookedAt l f true = only (headerCheck l f Short)
 lookedAt l f false = headerChecks l f
 
-unfoldable pub foundInHeader : Limits → List ℕ → ℕ → Found
-foundInHeader l f k = findingBy (lookedAt l f (ltb (length f) headerSize)) k
+-- what is decided there by the checks that are looked at
+unfoldable pub headerDecision : Limits → List ℕ → Wanted → Decision
+headerDecision l f w = decisionFor (lookedAt l f (ltb (length f) headerSize)) w
 
 -- by the three tests
-abbrev pub foundByTests : Bool → Bool → Bool → ℕ → Found
-foundByTests short above broken k =
-    orWanted (orWanted (orWanted Nothing (eqb k 1) (cond short (At 0) Nothing)) (eqb k 2) (cond above (At 0) Nothing)) (eqb k 3) (cond broken (At 0) Nothing)
+abbrev pub decidedByTests : Bool → Bool → Bool → Wanted → Decision
+decidedByTests short above broken w =
+    orFound (orFound (orFound Unmet 1 (sought w 1 (cond short (At 0) Nothing))) 2 (sought w 2 (cond above (At 0) Nothing))) 3
+    (sought w 3 (cond broken (At 0) Nothing))
 
 -- the counts of a header that stands whole and is within the limits, or the number of the check that says otherwise
 unfoldable pub countedOf : Limits → List ℕ → Opened

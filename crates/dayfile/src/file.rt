@@ -3,14 +3,16 @@ use crate::bytes::u32_at;
 use crate::records::Correction;
 use crate::records::Mark;
 use crate::records::Position;
+use numbers::Decision;
 use numbers::Found;
+use numbers::Wanted;
 ghost use mathlib.Core.Path.{_≡_};
 ghost use Prim.Native.Nat.{_-_, _≤_};
 ghost use lib.ListN.{length};
 ghost use Rattle.dayfile.specs.Limits.{fileLimits};
 ghost use Rattle.numbers.specs.Bytes.{part};
 ghost use Rattle.dayfile.specs.Layout.{headerSize, countsOf, correctionsStart, positionsStart, lengthOf, markBytes, correctionBytes, positionBytes};
-ghost use Rattle.dayfile.specs.Opening.{withinLimits, asLaidOut, openedOf, foundByTests, foundInHeader, countedOf};
+ghost use Rattle.dayfile.specs.Opening.{withinLimits, asLaidOut, openedOf, decidedByTests, headerDecision, countedOf};
 
 // The counts of a day file's three sections.
 pub struct DayFile {
@@ -144,26 +146,26 @@ pub fn open_file(s: &[u8]) -> Opened
     }
 }
 
-// What check k of three finds, by their tests. There is one file, and its index is 0.
-fn found_by_tests(short: bool, above: bool, broken: bool, k: u32) -> Found
-    ensures { λ r. ⌜ r ≡ foundByTests short above broken k ⌝ }
+// What three tests decide, by those checks that are looked at. There is one file, and its index is 0.
+fn decided_by_tests(short: bool, above: bool, broken: bool, wanted: Wanted) -> Decision
+    ensures { λ r. ⌜ r ≡ decidedByTests short above broken wanted ⌝ }
 {
     let none = Found::Nothing;
-    let o = none.or_wanted(k == 1, none.or_at(short, 0));
-    let o = o.or_wanted(k == 2, none.or_at(above, 0));
-    o.or_wanted(k == 3, none.or_at(broken, 0))
+    let d = Decision::Unmet;
+    let d = d.or_found(wanted, 1, none.or_at(short, 0));
+    let d = d.or_found(wanted, 2, none.or_at(above, 0));
+    d.or_found(wanted, 3, none.or_at(broken, 0))
 }
 
-// What check k finds in the header by itself: the file, with the index 0, where its condition holds. Of a file that is shorter than a header
-// its length alone is looked at.
-pub fn find_in_header(s: &[u8], k: u32) -> Found
-    ensures { λ r. ⌜ r ≡ foundInHeader fileLimits (now (s .entry)) k ⌝ }
+// What checks 1 to 3 decide, those of them that are looked at. Of a file that is shorter than a header its length alone is looked at.
+pub fn decide_header(s: &[u8], wanted: Wanted) -> Decision
+    ensures { λ r. ⌜ r ≡ headerDecision fileLimits (now (s .entry)) wanted ⌝ }
 {
     if s.len() < DayFile::HEADER {
-        return found_by_tests(true, false, false, k);
+        return decided_by_tests(true, false, false, wanted);
     }
     let d = counts(s);
-    found_by_tests(false, !within_limits(d), !as_laid_out(s, d), k)
+    decided_by_tests(false, !within_limits(d), !as_laid_out(s, d), wanted)
 }
 
 // The counts of a header that stands whole, where they are within the limits: checks 1 and 2 alone.

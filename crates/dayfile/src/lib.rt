@@ -6,7 +6,7 @@ mod records;
 pub use file::DayFile;
 pub use file::Opened;
 pub use file::counted;
-pub use file::find_in_header;
+pub use file::decide_header;
 pub use file::open_file;
 pub use records::Correction;
 pub use records::Mark;

@@ -9,15 +9,17 @@ use native.Mathlib.Omega.{arith}
 use lib.Dec.{leb}
 use borrow.Author.Tests.{leb-true}
 use Rattle.numbers.specs.Folds.{first}
-use Rattle.numbers.specs.Order.{pick, orLater, orFound, decision}
-use Rattle.numbers.specs.Checks.{Check, Checks, only, _before_, numberOf, HoldsAt, Refuses, Passes, findingOf, decisionOf}
+use Rattle.numbers.specs.Order.{pick, orLater, orFound, decision, sought}
+use Rattle.numbers.specs.Checks.{Check, Checks, only, _before_, numberOf, HoldsAt, Refuses, Passes, findingOf, decisionOf, decisionFor}
 use Rattle.numbers.specs.declared.Found.{Found}
 use Rattle.numbers.specs.declared.Found.the-variants.{At, Nothing}
 use Rattle.numbers.specs.declared.deciding.Decision.{Decision}
 use Rattle.numbers.specs.declared.deciding.Decision.the-variants.{Met, Unmet}
+use Rattle.numbers.specs.declared.deciding.Wanted.{Wanted}
+use Rattle.numbers.specs.declared.deciding.Wanted.the-variants.{All}
 use Rattle.numbers.proofs.Truth.{Tells, and-left, and-right}
 use Rattle.numbers.proofs.Searches.{first-clear}
-use Rattle.numbers.proofs.Order.{Finds, first-finds, met-exactly, clear-exactly, all-clear, none-of}
+use Rattle.numbers.proofs.Order.{Finds, first-finds, met-exactly, clear-exactly, all-clear, none-of, nothing-sought}
 
 -- ---- in words
 
@@ -56,6 +58,10 @@ module _ (cs : Checks) where
   pub unmet : ((c : cs .Name) → List·Memᴰ c (cs .order) → findingOf cs c ≡ Nothing) → decisionOf cs ≡ Unmet
   unfolding decisionOf
   unmet h = all-clear (numberOf cs) (findingOf cs) (cs .order) h
+
+  pub unmet-for : (w : Wanted) → ((c : cs .Name) → List·Memᴰ c (cs .order) → findingOf cs c ≡ Nothing) → decisionFor cs w ≡ Unmet
+  unfolding decisionFor
+  unmet-for w h = all-clear (numberOf cs) (λ c. sought w (numberOf cs c) (findingOf cs c)) (cs .order) (λ c m. rw (h c m) (nothing-sought w (numberOf cs c)))
 
   -- no record fails a test
   pub passed-at : decisionOf cs ≡ Unmet → {c : cs .Name} → List·Memᴰ c (cs .order) → {i : ℕ} → i < cs .size c → cs .check c .test i ≡ false
@@ -99,9 +105,14 @@ by-steps : {R : Type 0} (number : R → ℕ) (finding : R → Found) (d : Decisi
 by-steps number finding d [] = and-none d
 by-steps number finding d (x ∷ xs) = by-steps number finding (orFound d (number x) (finding x)) xs ∙ sym (decision-steps number finding d x xs)
 
-pub decision-by-steps : (cs : Checks) → foldl (λ d c. orFound d (numberOf cs c) (findingOf cs c)) Unmet (cs .order) ≡ decisionOf cs
-unfolding decisionOf
-decision-by-steps cs = by-steps (numberOf cs) (findingOf cs) Unmet (cs .order)
+pub decision-by-steps : (cs : Checks) (w : Wanted)
+    → foldl (λ d c. orFound d (numberOf cs c) (sought w (numberOf cs c) (findingOf cs c))) Unmet (cs .order) ≡ decisionFor cs w
+unfolding decisionFor
+decision-by-steps cs w = by-steps (numberOf cs) (λ c. sought w (numberOf cs c) (findingOf cs c)) Unmet (cs .order)
+
+pub decision-all : (cs : Checks) → decisionFor cs All ≡ decisionOf cs
+unfolding decisionFor decisionOf
+decision-all cs = refl
 
 -- one check by itself
 pub decision-only : (c : Check) → decisionOf (only c) ≡ pick (cond (c .test 0) (At 0) Nothing) (c .number) Unmet
@@ -116,6 +127,15 @@ decision-before p q =
     decision-append number finding (map inl (p .order)) (map inr (q .order))
     ∙ ap (λ d. orLater d (decision number finding (map inr (q .order)))) (decision-map number finding inl (p .order))
     ∙ ap (orLater (decision (numberOf p) (findingOf p) (p .order))) (decision-map number finding inr (q .order))
+
+pub decision-for-before : (p q : Checks) (w : Wanted) → decisionFor (p before q) w ≡ orLater (decisionFor p w) (decisionFor q w)
+unfolding decisionFor
+decision-for-before p q w =
+    let number = numberOf (p before q) in
+    let finding : (p before q) .Name → Found = λ c. sought w (numberOf (p before q) c) (findingOf (p before q) c) in
+    decision-append number finding (map inl (p .order)) (map inr (q .order))
+    ∙ ap (λ d. orLater d (decision number finding (map inr (q .order)))) (decision-map number finding inl (p .order))
+    ∙ ap (orLater (decisionFor p w)) (decision-map number finding inr (q .order))
 
 -- ---- the number and the index of a refusal
 

@@ -1,17 +1,19 @@
 -- What one check finds by itself, whatever the others say.
 use mathlib.Core.Path.{_≡_, refl, sym, ap, _∙_}
 use mathlib.Core.Bool.{Bool, true, false, cond, not, _||_, _&&_}
-use mathlib.Core.List.{List, [], _∷_, _++_, map, foldl, List·Memᴰ, List·Memᴰ·head, List·Memᴰ·tail, List·Memᴰ·not-nil}
-use mathlib.Core.Logic.{inl, inr, _↔_}
+use mathlib.Core.List.{List, [], _∷_, map, List·Memᴰ, List·Memᴰ·head, List·Memᴰ·tail, List·Memᴰ·not-nil}
+use mathlib.Core.Logic.{_↔_}
 use Prim.Native.Nat.{ℕ, _<_}
 use native.Mathlib.Omega.{arith}
 use lib.Dec.{eqb}
 use borrow.Author.Tests.{eqb-true, eq-eqb}
 use Rattle.numbers.specs.Folds.{orElse}
-use Rattle.numbers.specs.Order.{FindsAt, FindsNone, orWanted, found}
-use Rattle.numbers.specs.Checks.{Checks, _before_, numberOf, HoldsAt, FindsFirst, FindsNothing, findingOf, findingBy}
+use Rattle.numbers.specs.Order.{FindsAt, FindsNone, pick, decision, sought, foundIn, found}
+use Rattle.numbers.specs.Checks.{Checks, numberOf, FindsFirst, FindsNothing, findingOf, decisionFor, findingBy}
 use Rattle.numbers.specs.declared.Found.{Found}
 use Rattle.numbers.specs.declared.Found.the-variants.{At, Nothing}
+use Rattle.numbers.specs.declared.deciding.Decision.the-variants.{Unmet}
+use Rattle.numbers.specs.declared.deciding.Wanted.the-variants.{One}
 use Rattle.numbers.proofs.Truth.{not-both, and-left, and-right}
 use Rattle.numbers.proofs.Order.{Finds, none-holds, holds-there, found-there}
 use Rattle.numbers.proofs.Checks.{Agree, finds}
@@ -117,42 +119,26 @@ module _ (cs : Checks) (agree : Agree cs) (apart : distinct (map (numberOf cs) (
           let d = found-at (numberOf cs) (findingOf cs) (finds cs agree) k (cs .order) q in
           absurd (h .none (d .condition) (d .listed) (d .numbered) i (d .here))
 
--- ---- one after the other, and one part of an order after the other
-
-or-else-then : (o p q : Found) → orElse o (orElse p q) ≡ orElse (orElse o p) q
-or-else-then (At i) p q = refl
-or-else-then Nothing p q = refl
-
-and-nothing : (o : Found) → o ≡ orElse o Nothing
-and-nothing (At i) = refl
-and-nothing Nothing = refl
+-- ---- by a decision
 
 module _ {R : Type 0} (number : R → ℕ) (finding : R → Found) (k : ℕ) where
-  found-append : (xs ys : List R) → found number finding k (xs ++ ys) ≡ orElse (found number finding k xs) (found number finding k ys)
-  found-append [] ys = refl
-  found-append (x ∷ xs) ys =
-      let o = cond (eqb k (number x)) (finding x) Nothing in
-      ap (orElse o) (found-append xs ys) ∙ or-else-then o (found number finding k xs) (found number finding k ys)
+  one-more : (c : R) (o : Found) (p : Found) (b : Bool) → eqb k (number c) ≡ b → pick (cond b o Nothing) (number c) (pick p k Unmet) ≡ pick (orElse (cond b o Nothing) p) k Unmet
+  one-more c (At i) p true e = rw (eqb-true k (number c) e)
+  one-more c Nothing p true e = refl
+  one-more c o p false e = refl
 
-  found-map : {S : Type 0} (f : S → R) (xs : List S) → found number finding k (map f xs) ≡ found (λ x. number (f x)) (λ x. finding (f x)) k xs
-  found-map f [] = refl
-  found-map f (x ∷ xs) = ap (orElse (cond (eqb k (number (f x))) (finding (f x)) Nothing)) (found-map f xs)
+  decision-found : (cs : List R) → decision number (λ c. sought (One k) (number c) (finding c)) cs ≡ pick (found number finding k cs) k Unmet
+  decision-found [] = refl
+  decision-found (c ∷ cs) =
+      ap (pick (cond (eqb k (number c)) (finding c) Nothing) (number c)) (decision-found cs)
+      ∙ one-more c (finding c) (found number finding k cs) (eqb k (number c)) refl
 
-  by-steps : (o : Found) (xs : List R) → foldl (λ o x. orWanted o (eqb k (number x)) (finding x)) o xs ≡ orElse o (found number finding k xs)
-  by-steps o [] = and-nothing o
-  by-steps o (x ∷ xs) =
-      by-steps (orWanted o (eqb k (number x)) (finding x)) xs
-      ∙ sym (or-else-then o (cond (eqb k (number x)) (finding x) Nothing) (found number finding k xs))
+found-picked : (o : Found) (k : ℕ) → foundIn (pick o k Unmet) ≡ o
+found-picked (At i) k = refl
+found-picked Nothing k = refl
 
-pub found-by-steps : (cs : Checks) (k : ℕ) → foldl (λ o c. orWanted o (eqb k (numberOf cs c)) (findingOf cs c)) Nothing (cs .order) ≡ findingBy cs k
-unfolding findingBy
-found-by-steps cs k = by-steps (numberOf cs) (findingOf cs) k Nothing (cs .order)
-
-pub found-before : (p q : Checks) (k : ℕ) → findingBy (p before q) k ≡ orElse (findingBy p k) (findingBy q k)
-unfolding findingBy
-found-before p q k =
-    let number = numberOf (p before q) in
-    let finding = findingOf (p before q) in
-    found-append number finding k (map inl (p .order)) (map inr (q .order))
-    ∙ ap (λ o. orElse o (found number finding k (map inr (q .order)))) (found-map number finding k inl (p .order))
-    ∙ ap (orElse (found (numberOf p) (findingOf p) k (p .order))) (found-map number finding k inr (q .order))
+-- where the one check is looked at, its finding is decided
+pub found-decided : (cs : Checks) (k : ℕ) → foundIn (decisionFor cs (One k)) ≡ findingBy cs k
+unfolding decisionFor findingBy
+found-decided cs k =
+    ap foundIn (decision-found (numberOf cs) (findingOf cs) k (cs .order)) ∙ found-picked (found (numberOf cs) (findingOf cs) k (cs .order)) k

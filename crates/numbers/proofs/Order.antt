@@ -9,10 +9,11 @@ use native.Mathlib.Omega.{arith}
 use borrow.Author.Tests.{ltb-true, ltb-false}
 use lib.Dec.{ltb}
 use Rattle.numbers.specs.Folds.{first, orElse}
-use Rattle.numbers.specs.Order.{Decides, Clear, pick, decision}
+use Rattle.numbers.specs.Order.{Decides, Clear, pick, decision, takes, sought}
 use Rattle.numbers.specs.declared.Found.{Found}
 use Rattle.numbers.specs.declared.Found.the-variants.{At, Nothing}
 use Rattle.numbers.specs.declared.deciding.Decision.the-variants.{Met, Unmet}
+use Rattle.numbers.specs.declared.deciding.Wanted.{Wanted}
 use Rattle.numbers.proofs.Truth.{Tells}
 
 -- ---- what a search finds
@@ -71,6 +72,14 @@ module _ {P : ℕ → Type 0} {o : Found} where
       same false u true v = absurd (f i (ltb-true i k v) q)
       same false u false v = omega (arith, ltb-false k i u, ltb-false i k v)
   found-there (nowhere e f) i q g = absurd (f i q)
+
+-- who finds nothing finds nothing that is looked at
+pub nothing-sought : (w : Wanted) (n : ℕ) → sought w n Nothing ≡ Nothing
+nothing-sought w n = go (takes w n)
+  where
+    go : (b : Bool) → cond b Nothing Nothing ≡ Nothing
+    go true = refl
+    go false = refl
 
 -- ---- the decision
 

@@ -4,9 +4,10 @@ use mathlib.Core.List.{List, [], _∷_, _++_, map}
 use mathlib.Core.Logic.{_⊎_, inl, inr, ⊎-elim}
 use Prim.Native.Nat.{ℕ, _<_}
 use Rattle.numbers.specs.Folds.{first}
-use Rattle.numbers.specs.Order.{Decides, Clear, FindsAt, FindsNone, decision, found}
+use Rattle.numbers.specs.Order.{Decides, Clear, FindsAt, FindsNone, decision, sought, found}
 use Rattle.numbers.specs.declared.Found.{Found}
 use Rattle.numbers.specs.declared.deciding.Decision.{Decision}
+use Rattle.numbers.specs.declared.deciding.Wanted.{Wanted}
 
 pub record Check : Type 1 where
   pub number : ℕ
@@ -67,6 +68,10 @@ module _ (cs : Checks) where
   -- the first check that finds a record decides
   unfoldable pub decisionOf : Decision
   decisionOf = decision numberOf findingOf (cs .order)
+
+  -- of those that are looked at
+  unfoldable pub decisionFor : Wanted → Decision
+  decisionFor w = decision numberOf (λ c. sought w (numberOf c) (findingOf c)) (cs .order)
 
   -- what check k finds by itself
   unfoldable pub findingBy : ℕ → Found

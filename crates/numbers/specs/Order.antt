@@ -1,6 +1,6 @@
 -- Numbered conditions in an order, each about records by their index: which of them decides.
 use mathlib.Core.Path.{_≡_}
-use mathlib.Core.Bool.{Bool, cond}
+use mathlib.Core.Bool.{Bool, true, cond}
 use mathlib.Core.List.{List, [], _∷_, _++_, List·Memᴰ}
 use Prim.Native.Nat.{ℕ, _<_}
 use lib.Dec.{eqb}
@@ -9,6 +9,8 @@ use Rattle.numbers.specs.declared.Found.{Found}
 use Rattle.numbers.specs.declared.Found.the-variants.{At, Nothing}
 use Rattle.numbers.specs.declared.deciding.Decision.{Decision}
 use Rattle.numbers.specs.declared.deciding.Decision.the-variants.{Met, Unmet}
+use Rattle.numbers.specs.declared.deciding.Wanted.{Wanted}
+use Rattle.numbers.specs.declared.deciding.Wanted.the-variants.{All, One}
 
 module _ {R : Type 0} (number : R → ℕ) (Holds : R → ℕ → Type 0) where
   -- Condition k decides at record i: it holds there and at no record before it, and no condition that stands before it in the order holds at
@@ -61,9 +63,21 @@ abbrev pub decision : {R : Type 0} → (R → ℕ) → (R → Found) → List R 
 decision number finding [] = Unmet
 decision number finding (c ∷ cs) = pick (finding c) (number c) (decision number finding cs)
 
--- what was found so far, or else what a condition found that has the number looked for
-abbrev pub orWanted : Found → Bool → Found → Found
-orWanted o wanted p = orElse o (cond wanted p Nothing)
+-- ---- conditions that are looked at
+
+-- whether the condition with the number n is
+abbrev pub takes : Wanted → ℕ → Bool
+takes All n = true
+takes (One k) n = eqb k n
+
+-- what it found, if it is
+abbrev pub sought : Wanted → ℕ → Found → Found
+sought w n o = cond (takes w n) o Nothing
+
+-- the record of a decision
+abbrev pub foundIn : Decision → Found
+foundIn (Met k i) = At i
+foundIn Unmet = Nothing
 
 -- what is found by the condition with the number k
 abbrev pub found : {R : Type 0} → (R → ℕ) → (R → Found) → ℕ → List R → Found

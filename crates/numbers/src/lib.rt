@@ -3,13 +3,13 @@
 ghost use mathlib.Core.Path.{_≡_};
 ghost use mathlib.Core.Bool.{cond};
 ghost use Rattle.numbers.specs.Folds.{orElse, isSome};
-ghost use Rattle.numbers.specs.Order.{orWanted};
 ghost use Rattle.numbers.specs.declared.Found.the-variants.{At, Nothing};
 
 mod deciding;
 mod words;
 
 pub use deciding::Decision;
+pub use deciding::Wanted;
 pub use words::as_signed;
 pub use words::joined;
 
@@ -27,26 +27,6 @@ impl Found {
         match self {
             Found::At(_) => self,
             Found::Nothing => { if here { Found::At(i) } else { Found::Nothing } }
-        }
-    }
-
-    // What was found so far, or else another finding where it is the one that is wanted.
-    pub fn or_wanted(self, wanted: bool, other: Found) -> Found
-        ensures { λ r. ⌜ r ≡ orWanted self wanted other ⌝ }
-    {
-        match self {
-            Found::At(_) => self,
-            Found::Nothing => { if wanted { other } else { Found::Nothing } }
-        }
-    }
-
-    // What was found first.
-    pub fn or(self, later: Found) -> Found
-        ensures { λ r. ⌜ r ≡ orElse self later ⌝ }
-    {
-        match self {
-            Found::At(_) => self,
-            Found::Nothing => later,
         }
     }
 

@@ -1,8 +1,11 @@
+use mathlib.Core.Path.{_∙_}
 use lib.Dec.{ltb}
+use Rattle.numbers.proofs.Checks.{decision-all}
 use borrow.Author.Tests.{ltb-false}
 use Rattle.numbers.proofs.Truth.{or-left, or-right}
 use Rattle.dayfile.specs.Limits.{fileLimits}
 use Rattle.dayfile.specs.Records.{marksIn, correctionsIn}
+use Rattle.checks.specs.Corrections.{correctionChecks}
 use Rattle.checks.proofs.Deciding.{too-many-corrections, not-many-corrections}
 use borrow.Author.Needs.{needs}
 use Rattle.checks.proofs.corrections.check_corrections.Statement.{statement}
@@ -22,7 +25,7 @@ decide-corrections-requires c κs = (c .before .some-fault .ensures .1, rw (← 
 returns-2 : tie.Need-returns-2
 returns-2 c =
     let a = c .before .before .before .before .before .before .before .before .before .args in
-    not-many-corrections fileLimits (marksIn (a .marks .now)) (correctionsIn (a .corrections .now)) (rw (← c .before .before .before .before .before .before .mark-count .ensures, ← c .before .before .before .before .before .correction-count .ensures) (c .before .before .before .before .if1 .left)) (c .decide-corrections .ensures .0) (c .decide-corrections .ensures .1)
+    not-many-corrections fileLimits (marksIn (a .marks .now)) (correctionsIn (a .corrections .now)) (rw (← c .before .before .before .before .before .before .mark-count .ensures, ← c .before .before .before .before .before .correction-count .ensures) (c .before .before .before .before .if1 .left)) (c .decide-corrections .ensures .0 ∙ decision-all (correctionChecks (marksIn (a .marks .now)) (correctionsIn (a .corrections .now)))) (c .decide-corrections .ensures .1)
 
 pub check-corrections-spec : {M : Type 1} → statement M
 check-corrections-spec =

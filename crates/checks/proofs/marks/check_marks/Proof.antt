@@ -1,4 +1,6 @@
+use mathlib.Core.Path.{_∙_}
 use lib.ListN.{length}
+use Rattle.numbers.proofs.Checks.{decision-all}
 use Rattle.dayfile.specs.Limits.{fileLimits}
 use native.Mathlib.Omega.{arith}
 use borrow.Author.Tests.{lt-ltb, le-ltb}
@@ -16,7 +18,7 @@ decide-marks-requires : tie.Need-decide-marks-requires
 decide-marks-requires c κs = (omega (arith, c .before .before .mark-count .ensures, c .before .if1 .left), search needs)
 
 returns-2 : tie.Need-returns-2
-returns-2 c = let ms = marksIn (c .before .before .before .before .before .args .marks .now) in not-many (tooManyMarks fileLimits ms) (markChecks ms) (le-ltb (fileLimits .marks) (length ms) (omega (arith, c .before .before .if1 .left, c .before .before .before .mark-count .ensures))) (c .decide-marks .ensures .0)
+returns-2 c = let ms = marksIn (c .before .before .before .before .before .args .marks .now) in not-many (tooManyMarks fileLimits ms) (markChecks ms) (le-ltb (fileLimits .marks) (length ms) (omega (arith, c .before .before .if1 .left, c .before .before .before .mark-count .ensures))) (c .decide-marks .ensures .0 ∙ decision-all (markChecks ms))
 
 pub check-marks-spec : {M : Type 1} → statement M
 check-marks-spec = tie.close

@@ -14,7 +14,7 @@ returns c =
     let ms = s .before .args .marks .now in
     let bytes : Bytes ms = λ k. omega (arith, s .shared-slice-known .given k) in
     let alone = repeated-mark ms bytes (s .before .pre .0) (c .before .before .before .before .first-repeated .ensures) in
-    (marks-decided (marksIn ms) (c .before .find-first .ensures) alone (c .decide .ensures), c .before .before .before .before .before .some-fault .ensures .1)
+    (marks-decided (marksIn ms) _ (c .before .find-first .ensures) alone (c .decide .ensures), c .before .before .before .before .before .some-fault .ensures .1)
 
 returns-2 : tie.Need-returns-2
 returns-2 c =
@@ -24,7 +24,7 @@ returns-2 c =
     let alone = repeated-mark ms bytes (s .before .pre .0) (c .before .before .first-repeated .ensures) in
     let l = c .before .before .before .some-fault .ensures in
     let n = neither (c .before .is-some .ensures) (c .if1 .left) in
-    (sym (marks-clear (marksIn ms) (sym (l .0) ∙ n .0) (sym alone ∙ n .1)), l .1)
+    (sym (marks-clear (marksIn ms) (sym (l .0) ∙ n .0) _ (sym alone ∙ n .1)), l .1)
 
 pub decide-marks-spec : {M : Type 1} → statement M
 decide-marks-spec =

@@ -1,4 +1,6 @@
+use mathlib.Core.Path.{_∙_}
 use lib.Dec.{ltb}
+use Rattle.numbers.proofs.Checks.{decision-all}
 use borrow.Author.Tests.{ltb-false}
 use Rattle.numbers.proofs.Searches.{or-none}
 use Rattle.dayfile.specs.Limits.{fileLimits}
@@ -26,7 +28,7 @@ returns-2 c =
     let a = c .before .before .before .before .before .before .args in
     let ms = marksIn (a .marks .now) in
     let ps = positionsIn (a .positions .now) in
-    not-many (tooManyPositions fileLimits ms ps) (positionChecks ms ps) (rw (← c .before .before .before .mark-count .ensures, ← c .before .before .position-count .ensures) (c .before .if1 .left)) (c .decide-positions .ensures)
+    not-many (tooManyPositions fileLimits ms ps) (positionChecks ms ps) (rw (← c .before .before .before .mark-count .ensures, ← c .before .before .position-count .ensures) (c .before .if1 .left)) (c .decide-positions .ensures ∙ decision-all (positionChecks ms ps))
 
 pub check-positions-spec : {M : Type 1} → statement M
 check-positions-spec =
