@@ -11,13 +11,13 @@ import subprocess
 import sys
 from pathlib import Path
 
-ROOT = Path(__file__).resolve().parent.parent
 from random_days import random_day
 from records import MAX_CORRECTIONS, MAX_MARKS, MAX_POSITIONS, file_of
 from require import require
 from settlement import INPUT_LIMIT, sheet
 from stored import cases
 
+ROOT = Path(__file__).resolve().parent.parent
 SIZES = [(1, 0, 1), (3, 5, 9), (20, 40, 60), (MAX_MARKS, 0, 700), (7, MAX_CORRECTIONS, 200), (100, 100, MAX_POSITIONS)]
 
 

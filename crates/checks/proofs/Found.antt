@@ -23,7 +23,7 @@ use Rattle.dayfile.specs.Steps.{Small}
 use Rattle.dayfile.specs.declared.file.DayFile.{DayFile}
 use Rattle.dayfile.specs.declared.file.Opened.{Opened}
 use Rattle.dayfile.specs.declared.file.Opened.the-variants.{File, Refused}
-use Rattle.dayfile.proofs.Opening.{limited}
+use Rattle.dayfile.proofs.Opening.{limited, counted-file}
 use Rattle.dayfile.proofs.Parts.{small}
 use Rattle.dayfile.proofs.Refusals.{header-agrees}
 use Rattle.checks.specs.Judging.{recordChecks, fileChecks}
@@ -61,15 +61,6 @@ module _ (f : List ℕ) where
   abbrev Counts : Bool → Bool → Opened
   Counts short inside = cond short (Refused 1) (cond inside (File (countsOf f)) (Refused 2))
 
-  by-counts : (short inside : Bool) {d : DayFile} → Counts short inside ≡ File d → (short ≡ false) × (inside ≡ true) × (countsOf f ≡ d)
-  by-counts true inside p = absurd (let z : _≡_ {A = ℕ} 0 1 = cc in omega arith)
-  by-counts false false p = absurd (let z : _≡_ {A = ℕ} 0 1 = cc in omega arith)
-  by-counts false true p = (refl, refl, cc)
-
-  counts-are : {d : DayFile} → countedOf fileLimits f ≡ File d → (ltb (length f) headerSize ≡ false) × (withinLimits fileLimits (countsOf f) ≡ true) × (countsOf f ≡ d)
-  unfolding countedOf
-  counts-are o = by-counts (ltb (length f) headerSize) (withinLimits fileLimits (countsOf f)) o
-
   -- the header alone
   module _ (k : ℕ) where
     by-header : (short inside : Bool) {n : ℕ} → Counts short inside ≡ Refused n
@@ -85,12 +76,12 @@ module _ (f : List ℕ) where
   -- the header, then the records
   module _ {d : DayFile} (o : countedOf fileLimits f ≡ File d) {m c p : List ℕ} (ms : m ≡ markBytes f d) (cs : c ≡ correctionBytes f d) (ps : p ≡ positionBytes f d) where
     pub counted-small : Small (listsOf m c p)
-    counted-small = let (a, b, e) = counts-are o in rw (ms, cs, ps) (small f d (limited d (rw e at b)))
+    counted-small = let (a, b, e) = counted-file fileLimits f o in rw (ms, cs, ps) (small f d (limited d (rw e at b)))
 
     pub found-in-file : (k : ℕ) {h r s : Decision} {t : Found} → h ≡ headerDecision fileLimits f (One k) → r ≡ decisionFor (recordChecks (listsOf m c p)) (One k) → s ≡ orLater h r
         → t ≡ foundIn s → t ≡ foundOf fileLimits f k
     unfolding headerDecision foundOf
     found-in-file k h r s t =
-        let (a, b, e) = counts-are o in
+        let (a, b, e) = counted-file fileLimits f o in
         t ∙ rw (s, h, r, ms, cs, ps, ← e, a, b)
         (ap foundIn (sym (decision-for-before (headerChecks fileLimits f) (recordChecks (listsOfFile f)) (One k))) ∙ found-decided (fileChecks fileLimits f) k)

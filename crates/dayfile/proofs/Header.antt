@@ -4,7 +4,7 @@ use mathlib.Core.Bool.{Bool, true, false, cond, not}
 use mathlib.Core.List.{List}
 use Prim.Native.Nat.{ℕ, _≤_, _<_}
 use lib.ListN.{length}
-use borrow.Author.Tests.{lt-ltb, le-ltb}
+use borrow.Author.Tests.{lt-ltb, le-ltb, ltb-false}
 use Rattle.numbers.specs.Folds.{first}
 use Rattle.numbers.specs.Order.{pick, orFound, sought}
 use Rattle.numbers.specs.Checks.{decisionFor}
@@ -20,20 +20,15 @@ use Rattle.dayfile.specs.Opening.{withinLimits, asLaidOut, openedOf, hea
 use Rattle.dayfile.specs.declared.file.DayFile.{DayFile}
 use Rattle.dayfile.specs.declared.file.Opened.{Opened}
 use Rattle.dayfile.specs.declared.file.Opened.the-variants.{File, Refused}
-use Rattle.dayfile.proofs.Opening.{opened-by-tests}
+use Rattle.dayfile.proofs.Opening.{opened-by-tests, counted-file}
 
-module _ (s : List ℕ) {d : DayFile} (h : headerSize ≤ length s) (q : d ≡ countsOf s) where
-  pub refused-2 : withinLimits fileLimits d ≡ false → Refused 2 ≡ openedOf fileLimits s
-  refused-2 e = sym (opened-by-tests fileLimits s ∙ rw (le-ltb (length s) headerSize h, ← q, e))
+-- a file whose counts are given: the layout decides
+module _ (s : List ℕ) {d : DayFile} (o : countedOf fileLimits s ≡ File d) where
+  pub whole-header : headerSize ≤ length s
+  whole-header = ltb-false (length s) headerSize (counted-file fileLimits s o .0)
 
-  pub refused-3 : withinLimits fileLimits d ≡ true → asLaidOut s d ≡ false → Refused 3 ≡ openedOf fileLimits s
-  refused-3 e f = sym (opened-by-tests fileLimits s ∙ rw (le-ltb (length s) headerSize h, ← q, e, f))
-
-  pub accepted : withinLimits fileLimits d ≡ true → asLaidOut s d ≡ true → File d ≡ openedOf fileLimits s
-  accepted e f = sym (opened-by-tests fileLimits s ∙ rw (le-ltb (length s) headerSize h, ← q, e, f))
-
-pub refused-1 : (s : List ℕ) → length s < headerSize → Refused 1 ≡ openedOf fileLimits s
-refused-1 s h = sym (opened-by-tests fileLimits s ∙ rw (lt-ltb (length s) headerSize h))
+  pub by-layout : {b : Bool} → asLaidOut s d ≡ b → cond b (File d) (Refused 3) ≡ openedOf fileLimits s
+  by-layout e = let (short, inside, q) = counted-file fileLimits s o in sym (opened-by-tests fileLimits s ∙ rw (short, inside, q, e))
 
 -- ---- each check by itself
 

@@ -16,7 +16,7 @@ use Rattle.numbers.specs.declared.Found.the-variants.{At, Nothing}
 use Rattle.numbers.specs.declared.deciding.Decision.the-variants.{Unmet}
 use Rattle.dayfile.specs.Limits.{Limits, fileLimits}
 use Rattle.dayfile.specs.Layout.{countsOf, headerSize, correctionsStart, positionsStart, lengthOf}
-use Rattle.dayfile.specs.Opening.{withinLimits, asLaidOut, openedBy, openedOf}
+use Rattle.dayfile.specs.Opening.{withinLimits, asLaidOut, openedBy, openedOf, countedOf}
 use Rattle.dayfile.specs.Steps.{Limited, LaidOut}
 use Rattle.dayfile.specs.declared.file.DayFile.{DayFile}
 use Rattle.dayfile.specs.declared.file.Opened.the-variants.{File, Refused}
@@ -85,6 +85,30 @@ module _ (l : Limits) (f : List ℕ) where
   unfolding countsOf
   laid-opens h =
       opened-by-tests l f ∙ simp (le-ltb _ _ (h .header), le-leb _ _ (h .marks-fit), le-leb _ _ (h .corrections-fit), le-leb _ _ (h .positions-fit), eq-eqb _ _ (h .marks-at), eq-eqb _ _ (h .corrections-at), eq-eqb _ _ (h .positions-at), eq-eqb _ _ (h .ends-at))
+
+-- the counts that are given, by checks 1 and 2 alone
+module _ (l : Limits) (f : List ℕ) where
+  by-two : (short inside : Bool) {d : DayFile} → cond short (Refused 1) (cond inside (File (countsOf f)) (Refused 2)) ≡ File d
+      → (short ≡ false) × (inside ≡ true) × (countsOf f ≡ d)
+  by-two true inside p = absurd (let z : _≡_ {A = ℕ} 0 1 = cc in omega arith)
+  by-two false false p = absurd (let z : _≡_ {A = ℕ} 0 1 = cc in omega arith)
+  by-two false true p = (refl, refl, cc)
+
+  pub counted-file : {d : DayFile} → countedOf l f ≡ File d → (ltb (length f) headerSize ≡ false) × (withinLimits l (countsOf f) ≡ true) × (countsOf f ≡ d)
+  unfolding countedOf
+  counted-file p = by-two (ltb (length f) headerSize) (withinLimits l (countsOf f)) p
+
+  -- and the number of the first of the two that refuses
+  refused-by-two : (short inside laid : Bool) {k : ℕ} → cond short (Refused 1) (cond inside (File (countsOf f)) (Refused 2)) ≡ Refused k
+      → Refused k ≡ cond short (Refused 1) (cond inside (cond laid (File (countsOf f)) (Refused 3)) (Refused 2))
+  refused-by-two true inside laid p = sym p
+  refused-by-two false false laid p = sym p
+  refused-by-two false true laid p = absurd (let z : _≡_ {A = ℕ} 0 1 = cc in omega arith)
+
+  pub counted-refused : {k : ℕ} → countedOf l f ≡ Refused k → Refused k ≡ openedOf l f
+  unfolding countedOf
+  counted-refused p =
+      refused-by-two (ltb (length f) headerSize) (withinLimits l (countsOf f)) (asLaidOut f (countsOf f)) p ∙ sym (opened-by-tests l f)
 
 -- counts that pass the test are within the day file's own limits
 pub limited : (d : DayFile) → withinLimits fileLimits d ≡ true → Limited d

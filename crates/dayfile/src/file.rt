@@ -127,22 +127,34 @@ fn as_laid_out(s: &[u8], d: DayFile) -> bool
         & (s.len() == d.length())
 }
 
-// Checks 1 to 3: the file's counts, or the number of the first of these checks that it fails.
-pub fn open_file(s: &[u8]) -> Opened
-    ensures { λ r. ⌜ r ≡ openedOf fileLimits (now (s .entry)) ⌝ }
+// The counts of a header that stands whole, where they are within the limits: checks 1 and 2 alone.
+pub fn counted(s: &[u8]) -> Opened
+    ensures { λ r. ⌜ r ≡ countedOf fileLimits (now (s .entry)) ⌝ }
 {
     if s.len() < DayFile::HEADER {
         return Opened::Refused(1);
     }
     let d = counts(s);
     if within_limits(d) {
-        if as_laid_out(s, d) {
-            Opened::File(d)
-        } else {
-            Opened::Refused(3)
-        }
+        Opened::File(d)
     } else {
         Opened::Refused(2)
+    }
+}
+
+// Checks 1 to 3: the file's counts, or the number of the first of these checks that it fails.
+pub fn open_file(s: &[u8]) -> Opened
+    ensures { λ r. ⌜ r ≡ openedOf fileLimits (now (s .entry)) ⌝ }
+{
+    match counted(s) {
+        Opened::Refused(k) => Opened::Refused(k),
+        Opened::File(d) => {
+            if as_laid_out(s, d) {
+                Opened::File(d)
+            } else {
+                Opened::Refused(3)
+            }
+        }
     }
 }
 
@@ -166,19 +178,4 @@ pub fn decide_header(s: &[u8], wanted: Wanted) -> Decision
     }
     let d = counts(s);
     decided_by_tests(false, !within_limits(d), !as_laid_out(s, d), wanted)
-}
-
-// The counts of a header that stands whole, where they are within the limits: checks 1 and 2 alone.
-pub fn counted(s: &[u8]) -> Opened
-    ensures { λ r. ⌜ r ≡ countedOf fileLimits (now (s .entry)) ⌝ }
-{
-    if s.len() < DayFile::HEADER {
-        return Opened::Refused(1);
-    }
-    let d = counts(s);
-    if within_limits(d) {
-        Opened::File(d)
-    } else {
-        Opened::Refused(2)
-    }
 }

@@ -16,8 +16,10 @@ use Rattle.dayfile.specs.Records.{markAt, correctionAt, positionAt}
 use Rattle.dayfile.specs.Layout.{countsOf}
 use Rattle.dayfile.specs.Making.{countsIn, entryBytes, headerOf, madeOf}
 use Rattle.checks.specs.Table.{listed, quoted, tickOf}
-use Rattle.numbers.specs.Checks.{decisionOf}
+use Rattle.numbers.specs.Checks.{decisionOf, findingBy}
+use Rattle.numbers.specs.declared.Found.the-variants.{At, Nothing}
 use Rattle.checks.specs.Judging.{judgedOf}
+use Rattle.checks.specs.Finding.{foundOf}
 use Rattle.settlement.specs.Worths.{worthOf}
 use Rattle.settlement.specs.Prices.{latestOf, finalOf, changeOf}
 use Rattle.settlement.specs.Settling.{amountOf, totalOf, Answer, settled, refused, planOf, answerOf}
@@ -114,3 +116,11 @@ files =
 pub files-answered : map (λ x. answerOf fileLimits (x .file) 2) files ≡ map (λ x. x .answer) files
 unfolding files nearest par priceLimit yieldAt products sameCode findIn find hasMonth billDividend billDivisor valueBy judged valueOf u32Bytes u32At signed recordsOf first some markAt correctionAt positionAt listed quoted tickOf currencyOf worthOf decisionOf judgedOf countsOf latestOf finalOf changeOf amountOf totalOf planOf answerOf countsIn entryBytes headerOf madeOf
 files-answered = refl
+
+-- What each of the numbers 1 to 14 finds by itself in a file with four faults: a byte too many, a second mark off its tick, a second correction that names
+-- no mark, and a second position without lots.
+pub found-each : map (foundOf fileLimits (fileOf (markOf BB 6 19 940050 940100) (three 5 2 951000) (three 12 1 0) ++ (0 ∷ [])))
+    (1 ∷ 2 ∷ 3 ∷ 4 ∷ 5 ∷ 6 ∷ 7 ∷ 8 ∷ 9 ∷ 10 ∷ 11 ∷ 12 ∷ 13 ∷ 14 ∷ [])
+    ≡ Nothing ∷ Nothing ∷ At 0 ∷ Nothing ∷ Nothing ∷ Nothing ∷ At 1 ∷ Nothing ∷ At 1 ∷ Nothing ∷ Nothing ∷ Nothing ∷ At 1 ∷ Nothing ∷ []
+unfolding priceLimit products sameCode findIn find hasMonth u32Bytes u32At signed recordsOf first some markAt correctionAt positionAt listed quoted tickOf findingBy foundOf countsOf countsIn entryBytes headerOf madeOf
+found-each = refl

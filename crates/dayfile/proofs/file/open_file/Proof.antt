@@ -1,35 +1,34 @@
 use mathlib.Core.Path.{sym, _∙_}
-use Rattle.dayfile.proofs.Header.{refused-1, refused-2, refused-3, accepted}
+use Rattle.dayfile.proofs.Opening.{counted-refused}
+use Rattle.dayfile.proofs.Header.{whole-header, by-layout}
 use borrow.Author.Needs.{needs}
 use Rattle.dayfile.proofs.file.open_file.Statement.{statement}
 use Rattle.dayfile.proofs.file.open_file.Tie as tie
 
+as-laid-out-requires : tie.Need-as-laid-out-requires
+as-laid-out-requires c κs = whole-header _ (sym (c .before .before .before .counted .ensures) ∙ c .before .d .given .1)
+
 returns : tie.Need-returns
-returns c =
-    refused-1 _ (c .if1 .taken)
+returns c = counted-refused _ _ (sym (c .before .before .before .counted .ensures) ∙ c .before .k .given .1)
 
 returns-2 : tie.Need-returns-2
 returns-2 c =
-    let e = c .before .before in
-    accepted _ (e .before .before .before .if1 .left) (e .before .before .counts .ensures) (sym (e .before .within-limits .ensures) ∙ e .if2 .taken) (sym (c .before .as-laid-out .ensures) ∙ c .if3 .taken)
+    let s = c .before .before .before in
+    by-layout _ (sym (s .before .before .counted .ensures) ∙ s .d .given .1) (sym (c .before .as-laid-out .ensures) ∙ c .if1 .taken)
 
 returns-3 : tie.Need-returns-3
 returns-3 c =
-    let e = c .before .before in
-    refused-3 _ (e .before .before .before .if1 .left) (e .before .before .counts .ensures) (sym (e .before .within-limits .ensures) ∙ e .if2 .taken) (sym (c .before .as-laid-out .ensures) ∙ c .if3 .left)
-
-returns-4 : tie.Need-returns-4
-returns-4 c =
-    refused-2 _ (c .before .before .before .if1 .left) (c .before .before .counts .ensures) (sym (c .before .within-limits .ensures) ∙ c .if2 .left)
+    let s = c .before .before .before in
+    by-layout _ (sym (s .before .before .counted .ensures) ∙ s .d .given .1) (sym (c .before .as-laid-out .ensures) ∙ c .if1 .left)
 
 pub open-file-spec : {M : Type 1} → statement M
 open-file-spec =
     tie.close
     (tie.spec
+    (λ c κs. search needs)
+    (λ c. search needs)
+    (λ c. search needs)
+    as-laid-out-requires
     returns
-    (λ c κs. search needs)
-    (λ c κs. search needs)
-    (λ c κs. search needs)
     returns-2
-    returns-3
-    returns-4)
+    returns-3)
