@@ -43,13 +43,22 @@ def check_failures(program):
     print("sheets: failures to read and to write are told")
 
 
+def indented(text):
+    """The text as a page shows it."""
+    return "".join(f"    {line}\n" if line else "\n" for line in text.splitlines())
+
+
 def check_readme(program, command):
-    """README.md shows the sheet of the sample day."""
-    file = subprocess.run([command, "make", ROOT / "samples" / "day.txt"], capture_output=True, check=True).stdout
+    """README.md shows the sheet of the sample day, as it is and explained, and a refusal that docs/COMMAND.md shows."""
+    sample, readme = ROOT / "samples" / "day.txt", (ROOT / "README.md").read_text()
+    file = subprocess.run([command, "make", sample], capture_output=True, check=True).stdout
     printed = subprocess.run([program], input=file, capture_output=True, check=True).stdout.decode()
-    shown = "".join(f"    {line}\n" for line in printed.splitlines())
-    require(shown in (ROOT / "README.md").read_text(), "the sheet that README.md shows")
-    print("sheets: README.md shows the sheet of the sample day")
+    require(indented(printed) in readme, "the sheet that README.md shows")
+    explained = subprocess.run([command, "explain", "--text", sample], capture_output=True, check=True).stdout.decode()
+    require(indented(explained) in readme, "the explained sheet that README.md shows")
+    refusal = readme[readme.index("    refused 7 at 0:"):].split("\n`citronreef make")[0]
+    require(refusal in (ROOT / "docs" / "COMMAND.md").read_text(), "the refusal that README.md shows")
+    print("sheets: README.md shows the sheet of the sample day, explained too, and a refusal")
 
 
 def main(program, command):
