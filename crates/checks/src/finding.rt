@@ -1,4 +1,4 @@
-// What one check finds in a day file by itself, so that all that is wrong with a file can be told at once.
+// What one check finds in a day file by itself, so that more than the first fault of a file can be told at once.
 use crate::judging::decide_records;
 use dayfile::Opened;
 use dayfile::counted;

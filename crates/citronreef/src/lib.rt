@@ -134,7 +134,7 @@ fn mark_numbers(p: MarkPrices) -> MarkOutcome
     }
 }
 
-// The record where the condition of one check holds first. Where it holds at none, both are 0.
+// The record where the condition of one check holds first. Where none is found, both are 0.
 #[repr(C)]
 pub struct Finding {
     pub found: u64,
@@ -194,7 +194,8 @@ pub extern "C" fn citronreef_mark(file: &[u8], mark: usize) -> MarkOutcome
     mark_numbers(settlement::mark(file, mark))
 }
 
-// The first record of a day file where the condition of one of checks 1 to 13 holds, whatever the others say.
+// The first record of a day file where the condition of one of checks 1 to 13 holds, whatever the others say, as far as a file is looked at
+// (`checks::find`).
 #[no_mangle]
 pub extern "C" fn citronreef_find(file: &[u8], check: u32) -> Finding
     ensures { λ r. ⌜ r ≡ findingOf (foundOf fileLimits (now (file .entry)) check) ⌝ }

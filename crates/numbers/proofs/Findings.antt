@@ -1,7 +1,7 @@
 -- What one check finds by itself, whatever the others say.
 use mathlib.Core.Path.{_≡_, refl, sym, ap, _∙_}
 use mathlib.Core.Bool.{Bool, true, false, cond, not, _||_, _&&_}
-use mathlib.Core.List.{List, [], _∷_, map, List·Memᴰ, List·Memᴰ·head, List·Memᴰ·tail, List·Memᴰ·not-nil}
+use mathlib.Core.List.{List, [], _∷_, _++_, map, List·Memᴰ, List·Memᴰ·head, List·Memᴰ·tail, List·Memᴰ·not-nil}
 use mathlib.Core.Logic.{_↔_}
 use Prim.Native.Nat.{ℕ, _<_}
 use native.Mathlib.Omega.{arith}
@@ -9,14 +9,14 @@ use lib.Dec.{eqb}
 use borrow.Author.Tests.{eqb-true, eq-eqb}
 use Rattle.numbers.specs.Folds.{orElse}
 use Rattle.numbers.specs.Order.{FindsAt, FindsNone, pick, decision, sought, foundIn, found}
-use Rattle.numbers.specs.Checks.{Checks, numberOf, FindsFirst, FindsNothing, findingOf, decisionFor, findingBy}
+use Rattle.numbers.specs.Checks.{Checks, numberOf, FindsFirst, FindsNothing, findingOf, decisionOf, decisionFor, findingBy}
 use Rattle.numbers.specs.declared.Found.{Found}
 use Rattle.numbers.specs.declared.Found.the-variants.{At, Nothing}
-use Rattle.numbers.specs.declared.deciding.Decision.the-variants.{Unmet}
+use Rattle.numbers.specs.declared.deciding.Decision.the-variants.{Met, Unmet}
 use Rattle.numbers.specs.declared.deciding.Wanted.the-variants.{One}
 use Rattle.numbers.proofs.Truth.{not-both, and-left, and-right}
 use Rattle.numbers.proofs.Order.{Finds, none-holds, holds-there, found-there}
-use Rattle.numbers.proofs.Checks.{Agree, finds}
+use Rattle.numbers.proofs.Checks.{Agree, finds, refuses-exactly, passes-exactly}
 
 -- ---- numbers that all differ
 
@@ -118,6 +118,33 @@ module _ (cs : Checks) (agree : Agree cs) (apart : distinct (map (numberOf cs) (
       go h (At i) q =
           let d = found-at (numberOf cs) (findingOf cs) (finds cs agree) k (cs .order) q in
           absurd (h .none (d .condition) (d .listed) (d .numbered) i (d .here))
+
+-- ---- and what the checks decide together
+
+in-the-middle : {R : Type 0} (xs : List R) (c : R) (ys : List R) → List·Memᴰ c (xs ++ (c ∷ ys))
+in-the-middle [] c ys = List·Memᴰ·head refl
+in-the-middle (x ∷ xs) c ys = List·Memᴰ·tail (in-the-middle xs c ys)
+
+member-as : {R : Type 0} {c : R} {xs ys : List R} → xs ≡ ys → List·Memᴰ c ys → List·Memᴰ c xs
+member-as e m = rw e m
+
+module _ (cs : Checks) (agree : Agree cs) (apart : distinct (map (numberOf cs) (cs .order)) ≡ true) where
+  -- the check that refuses finds the record that it refuses at
+  pub refusal-found : {k i : ℕ} → decisionOf cs ≡ Met k i → findingBy cs k ≡ At i
+  refusal-found {k} p =
+      let d = refuses-exactly cs agree .0 p in
+      finds-exactly cs agree apart k .1
+      (record {
+        condition = d .condition;
+        listed = member-as (d .ordered) (in-the-middle (d .earlier) (d .condition) (d .later));
+        numbered = d .numbered;
+        here = d .here;
+        first = d .first;
+      })
+
+  -- and where none refuses none finds anything
+  pub nothing-found : decisionOf cs ≡ Unmet → (k : ℕ) → findingBy cs k ≡ Nothing
+  nothing-found p k = finds-nothing cs agree apart k .1 (record { none = λ c m e. passes-exactly cs agree .0 p .none c m })
 
 -- ---- by a decision
 

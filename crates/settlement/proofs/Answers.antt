@@ -4,6 +4,7 @@ use mathlib.Core.Path.{_≡_, refl}
 use mathlib.Core.List.{List, [], _∷_, _++_, map}
 use Prim.Native.Nat.{ℕ}
 use lib.IntN.{pos, negsuc}
+use lib.ListN.{take}
 use Rattle.numbers.specs.Rounding.{nearest}
 use Rattle.numbers.specs.Bytes.{u32At, signed, recordsOf, u32Bytes}
 use Rattle.numbers.specs.Folds.{first, some}
@@ -17,6 +18,7 @@ use Rattle.dayfile.specs.Layout.{countsOf}
 use Rattle.dayfile.specs.Making.{countsIn, entryBytes, headerOf, madeOf}
 use Rattle.checks.specs.Table.{listed, quoted, tickOf}
 use Rattle.numbers.specs.Checks.{decisionOf, findingBy}
+use Rattle.numbers.specs.declared.Found.{Found}
 use Rattle.numbers.specs.declared.Found.the-variants.{At, Nothing}
 use Rattle.checks.specs.Judging.{judgedOf}
 use Rattle.checks.specs.Finding.{foundOf}
@@ -117,10 +119,66 @@ pub files-answered : map (λ x. answerOf fileLimits (x .file) 2) files ≡ map (
 unfolding files nearest par priceLimit yieldAt products sameCode findIn find hasMonth billDividend billDivisor valueBy judged valueOf u32Bytes u32At signed recordsOf first some markAt correctionAt positionAt listed quoted tickOf currencyOf worthOf decisionOf judgedOf countsOf latestOf finalOf changeOf amountOf totalOf planOf answerOf countsIn entryBytes headerOf madeOf
 files-answered = refl
 
--- What each of the numbers 1 to 14 finds by itself in a file with four faults: a byte too many, a second mark off its tick, a second correction that names
--- no mark, and a second position without lots.
-pub found-each : map (foundOf fileLimits (fileOf (markOf BB 6 19 940050 940100) (three 5 2 951000) (three 12 1 0) ++ (0 ∷ [])))
-    (1 ∷ 2 ∷ 3 ∷ 4 ∷ 5 ∷ 6 ∷ 7 ∷ 8 ∷ 9 ∷ 10 ∷ 11 ∷ 12 ∷ 13 ∷ 14 ∷ [])
-    ≡ Nothing ∷ Nothing ∷ At 0 ∷ Nothing ∷ Nothing ∷ Nothing ∷ At 1 ∷ Nothing ∷ At 1 ∷ Nothing ∷ Nothing ∷ Nothing ∷ At 1 ∷ Nothing ∷ []
-unfolding priceLimit products sameCode findIn find hasMonth u32Bytes u32At signed recordsOf first some markAt correctionAt positionAt listed quoted tickOf findingBy foundOf countsOf countsIn entryBytes headerOf madeOf
+-- ---- what each check finds by itself
+
+-- a file, the numbers that are asked for, and what they find
+pub record Findings : Type 0 where
+  pub file : List ℕ
+  pub asked : List ℕ
+  pub found : List Found
+
+unfoldable pub findings : List Findings
+findings =
+    -- four faults: a byte too many, a second mark off its tick, a second correction that names no mark, a second position without lots
+    record {
+      file = fileOf (markOf BB 6 19 940050 940100) (three 5 2 951000) (three 12 1 0) ++ (0 ∷ []);
+      asked = 1 ∷ 2 ∷ 3 ∷ 4 ∷ 5 ∷ 6 ∷ 7 ∷ 8 ∷ 9 ∷ 10 ∷ 11 ∷ 12 ∷ 13 ∷ 14 ∷ [];
+      found = Nothing ∷ Nothing ∷ At 0 ∷ Nothing ∷ Nothing ∷ Nothing ∷ At 1 ∷ Nothing ∷ At 1 ∷ Nothing ∷ Nothing ∷ Nothing ∷ At 1 ∷ Nothing ∷ [];
+    }
+    -- all of 3 to 13, most of them at two records: the first is found
+    ∷ record {
+      file =
+          madeOf
+          (markOf IR 3 18 950000 950200 ++ markOf (66, 67) 6 19 940000 940100 ++ markOf BB 6 19 1000100 940100 ++ markOf BB 6 19 940050 1000100
+          ++ markOf IR 3 18 940050 940100)
+          (three 7 0 950100 ++ three 5 9 951001 ++ three 6 1 951001 ++ three 6 0 951050 ++ three 7 8 1000100)
+          (three 11 0 10 ++ three 12 5 4 ++ three 13 0 0 ++ three 14 9 0)
+          ++ (0 ∷ []);
+      asked = 1 ∷ 2 ∷ 3 ∷ 4 ∷ 5 ∷ 6 ∷ 7 ∷ 8 ∷ 9 ∷ 10 ∷ 11 ∷ 12 ∷ 13 ∷ 14 ∷ [];
+      found = Nothing ∷ Nothing ∷ At 0 ∷ At 1 ∷ At 1 ∷ At 2 ∷ At 3 ∷ At 3 ∷ At 1 ∷ At 3 ∷ At 3 ∷ At 1 ∷ At 2 ∷ Nothing ∷ [];
+    }
+    -- shorter than a header: its length alone is looked at
+    ∷ record {
+      file = take 23 (header 257 25 0 24 0 24);
+      asked = 0 ∷ 1 ∷ 2 ∷ 3 ∷ 4 ∷ [];
+      found = Nothing ∷ At 0 ∷ Nothing ∷ Nothing ∷ Nothing ∷ [];
+    }
+    -- a count above its limit: the header alone, though there is a mark with every fault
+    ∷ record {
+      file = header 257 24 0 3108 0 3108 ++ markOf (66, 67) 7 100 1000001 1000001;
+      asked = 1 ∷ 2 ∷ 3 ∷ 4 ∷ 5 ∷ 6 ∷ 7 ∷ [];
+      found = Nothing ∷ At 0 ∷ At 0 ∷ Nothing ∷ Nothing ∷ Nothing ∷ Nothing ∷ [];
+    }
+    -- a code in no table has no months and no tick
+    ∷ record {
+      file = fileOf (markOf (66, 67) 6 19 940001 940003) (three 5 1 951001) p;
+      asked = 4 ∷ 5 ∷ 6 ∷ 7 ∷ 10 ∷ [];
+      found = At 1 ∷ At 1 ∷ Nothing ∷ Nothing ∷ Nothing ∷ [];
+    }
+    -- cut in its last record: whole records are looked at
+    ∷ record {
+      file = take 95 (fileOf m (three 5 2 951001) (three 12 2 0));
+      asked = 3 ∷ 9 ∷ 10 ∷ 12 ∷ 13 ∷ [];
+      found = At 0 ∷ At 1 ∷ Nothing ∷ Nothing ∷ Nothing ∷ [];
+    }
+    -- a wrong offset: the sections are cut by the counts
+    ∷ record {
+      file = header 1 24 0 48 1 36 ++ markOf IR 3 18 950000 950200 ++ three 11 0 0;
+      asked = 3 ∷ 4 ∷ 9 ∷ 12 ∷ 13 ∷ [];
+      found = At 0 ∷ Nothing ∷ Nothing ∷ Nothing ∷ At 0 ∷ [];
+    }
+    ∷ []
+
+pub found-each : map (λ x. map (foundOf fileLimits (x .file)) (x .asked)) findings ≡ map (λ x. x .found) findings
+unfolding findings priceLimit products sameCode findIn find hasMonth u32Bytes u32At signed recordsOf first some markAt correctionAt positionAt listed quoted tickOf findingBy foundOf countsOf countsIn entryBytes headerOf madeOf
 found-each = refl
