@@ -2,7 +2,7 @@
 use mathlib.Core.Path.{_≡_, sym, _∙_}
 use mathlib.Core.Bool.{false, _||_}
 use mathlib.Core.List.{List}
-use Prim.Native.Nat.{ℕ, _≤_, _<_}
+use Prim.Native.Nat.{ℕ, _-_, _≤_, _<_}
 use native.Mathlib.Omega.{arith}
 use lib.ListN.{length}
 use lib.IntN.{ℤ, pos, negsuc, negℤ, natAbs}
@@ -64,7 +64,7 @@ module _ (l : Limits) (f : List ℕ) where
 lots-bound : (z : ℤ) → badLots z ≡ false → natAbs z ≤ lotsLimit
 lots-bound (pos n) e = ltb-false lotsLimit n (or-right (isZero (pos n) || ltZ (pos n) (negℤ (pos lotsLimit))) _ e)
 lots-bound (negsuc n) e =
-    omega (arith, ltb-false 999999 n (or-right (isZero (negsuc n)) _ (or-left (isZero (negsuc n) || ltZ (negsuc n) (negℤ (pos lotsLimit))) _ e)))
+    omega (arith, ltb-false (lotsLimit - 1) n (or-right (isZero (negsuc n)) _ (or-left (isZero (negsuc n) || ltZ (negsuc n) (negℤ (pos lotsLimit))) _ e)))
 
 module _ (ls : Lists) (passed : decisionOf (recordChecks ls) ≡ Unmet) (i : ℕ) where
   pub mark-passes : (c : MarkCheck) → i < length (ls .marks) → markCheck (ls .marks) c .test i ≡ false

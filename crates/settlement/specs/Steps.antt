@@ -1,6 +1,6 @@
 -- What the steps of the settlement ask of each other and give: arrays, sizes, and what was checked before.
 use mathlib.Core.Path.{_≡_}
-use Prim.Native.Nat.{ℕ, _≤_, _<_}
+use Prim.Native.Nat.{ℕ, _*_, _≤_, _<_}
 use mathlib.Core.List.{List}
 use lib.IntN.{ℤ, pos, natAbs, _+ℤ_}
 use mathlib.Core.Bool.{Bool, true, false}
@@ -30,10 +30,10 @@ changeCap = 1_000_000_000
 
 -- no amount is larger than this, in cents, and no total
 abbrev pub amountCap : ℕ
-amountCap = 1_000_000_000_000_000
+amountCap = lotsLimit * changeCap
 
 abbrev pub totalCap : ℕ
-totalCap = 5_000_000_000_000_000_000
+totalCap = fileLimits .positions * amountCap
 
 -- a mark's price today
 abbrev pub todayOf : List Mark → ℕ → ℕ
