@@ -2,14 +2,16 @@
  * Citronreef: value, tick value and bracket of one ASX 24 rate futures contract, the settlement of a day file,
  * what is said of each of its marks, where a check's condition holds in it, and its sheet.
  *
- * Link with libcitronreef.so or libcitronreef.a; `pkg-config --cflags --libs citronreef` says how. docs/LIBRARY.md has examples,
- * docs/REFUSALS.md the checks by their numbers. No function keeps what it is lent, allocates or reads anything but its arguments.
- * Every argument is answered: a call that cannot be met is refused with a check's number, or, for the sheet, answered with 0.
+ * Link with libcitronreef.so or libcitronreef.a; `pkg-config --cflags --libs citronreef` says how. Of the documents, which are
+ * installed in share/doc/citronreef and stand in docs of the repository, LIBRARY.md has examples and REFUSALS.md the checks by
+ * their numbers. No function keeps what it is lent, allocates or reads anything but its arguments. Every argument is answered: a
+ * call that cannot be met is refused with a check's number, but for two: citronreef_sheet answers 0 where there is too little room,
+ * and citronreef_find answers found 0 for a number of no check.
  *
  * Threads: the library has no writable data. Any function may be called from many threads at once, also on the same file, as
  * long as no two calls write to the same memory and nobody writes to a file while a call reads it.
  *
- * Stack: no call needs more than CITRONREEF_STACK_KIB. tests/installed/stack.c measures it.
+ * Stack: no call needs more than CITRONREEF_STACK_KIB. In the repository, tests/installed/stack.c measures it.
  *
  * Null: a pointer with length 0 may be null, as the data of an empty std::vector is. This is tested and lies outside the proof,
  * which is about slices, and a slice is never null. A null pointer with another length is not allowed.
@@ -81,10 +83,10 @@ typedef struct {
     int64_t change;     /* the change in value of one contract from the previous to the final price, in cents */
 } citronreef_mark_prices;
 
-/* Where a check's condition holds in a day file. */
+/* Where a check's condition holds in what citronreef_find looks at, which is not always the whole of a file. */
 typedef struct {
-    uint64_t found; /* 1 where it holds anywhere, 0 where it does not */
-    uint64_t index; /* the first record where it holds; 0 where it does not, or where the check looks at no single record */
+    uint64_t found; /* 1 where it holds there, 0 where it does not, or where the check is not looked for */
+    uint64_t index; /* the first record where it holds; 0 where found is 0, or where the check looks at no single record */
 } citronreef_found;
 
 /* The value of one contract in cents. The code is two letters; the price is in units of 0.0001. */
@@ -93,7 +95,7 @@ citronreef_quote citronreef_value(uint8_t first, uint8_t second, uint32_t price)
 /* The value at the price one tick higher, minus the value. */
 citronreef_quote citronreef_tick_value(uint8_t first, uint8_t second, uint32_t price);
 
-/* The bracket of a bond, in units of 10^-8. */
+/* The bracket of a bond, in units of 10^-8. A code of no bond is refused with 4, also where the product table has it. */
 citronreef_quote citronreef_bracket(uint8_t first, uint8_t second, uint32_t price);
 
 /*
@@ -110,10 +112,11 @@ citronreef_outcome citronreef_settle(const uint8_t *file, size_t file_length, in
 citronreef_mark_prices citronreef_mark(const uint8_t *file, size_t file_length, size_t mark);
 
 /*
- * Whether the condition of the check with this number, 1 to 13, holds anywhere in a day file, and the first record where it
- * does. Each condition is looked for by itself, so that one may be found that vanishes once an earlier one is mended. Of a file
- * that is shorter than its header only 1 is looked for, and of one with a count above its limit only 1 to 3; of one that is shorter
- * than its counts say, the records that it has whole are looked at. Any other number is not found.
+ * Whether the condition of the check with this number, 1 to 13, holds in a day file, and the first record where it does. Each
+ * condition is looked for by itself, so that one may be found that vanishes once an earlier one is mended. Not all of every file is
+ * looked at: of one that is shorter than 24 bytes only check 1, and of one with a count above its limit only 1 to 3. Otherwise the
+ * sections follow one another from byte 24 by the header's counts, whatever its offsets say, as far as the file has whole records.
+ * A number of no check is answered with found 0.
  */
 citronreef_found citronreef_find(const uint8_t *file, size_t file_length, uint32_t check);
 

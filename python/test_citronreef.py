@@ -5,6 +5,7 @@
 """
 import decimal
 import doctest
+import pickle
 import re
 import sys
 import threading
@@ -21,11 +22,12 @@ import calculator
 import citronreef
 import settlement
 from citronreef import Refusal
-from days import DOCUMENT_01_DAY, correction, file
+from days import DOCUMENT_01_DAY, correction, file, position
 from random_days import random_day
 from records import MAX_CORRECTIONS, MAX_MARKS, MAX_POSITIONS, file_of, sections_of
 from stored import cases
 
+NO_BOND = "the code is of no bond, and only a bond has a bracket"
 CODES = ("IR", "BB", "IB", "YT", "XT", "XX", "ZZ", "ir", "\0\0")
 PRICES = (0, 50, 100, 940_000, 950_000, 950_050, 950_100, 950_101, 999_900, 999_950, 1_000_000, 1_000_001, 1_000_100, 2**32 - 1)
 SIZES = ((1, 0, 1), (3, 5, 9), (20, 40, 60), (MAX_MARKS, MAX_CORRECTIONS, 300))
@@ -66,6 +68,17 @@ class Contracts(unittest.TestCase):
         self.assertEqual(str(citronreef.bracket("YT", Decimal("94"))), "100.00000153")
         self.assertEqual(str(citronreef.bracket("YT", Decimal("100"))), "118.00000000")
 
+    def test_words_of_a_bracket(self):
+        for code, said in (("IR", NO_BOND), ("BB", NO_BOND), ("IB", NO_BOND), ("ZZ", citronreef.WORDS[3])):
+            for price in ("94", "94.001", "200"):
+                with self.subTest(code=code, price=price), self.assertRaises(Refusal) as raised:
+                    citronreef.bracket(code, Decimal(price))
+                refusal = raised.exception
+                self.assertEqual((refusal.number, refusal.index, refusal.words), (4, 0, said))
+                self.assertEqual(str(refusal), f"refused 4 at 0: {said}")
+        for code in ("YT", "XT", "XX"):
+            self.assertEqual(answer(citronreef.bracket, code, Decimal("94.001")), (7, 0))
+
     def test_prices_come_back(self):
         for units in PRICES:
             self.assertEqual(citronreef.units_of(citronreef.price_of(units)), units)
@@ -83,6 +96,9 @@ class Contracts(unittest.TestCase):
         for word in ("95.00001", "-0.01", "429496.7296", "1e30", "1e-999999", "NaN", "sNaN", "Infinity"):
             with self.subTest(price=word), self.assertRaises(ValueError):
                 citronreef.value("IR", Decimal(word))
+        for word, said in (("NaN", "no number"), ("-sNaN7", "no number"), ("-Infinity", "below 0"), ("Infinity", "too large")):
+            with self.subTest(price=word), self.assertRaisesRegex(ValueError, f"^{word} is no price: it is .*{said}"):
+                citronreef.units_of(Decimal(word))
         for price in (95, 95.01, "95.01", None, 950_100):
             with self.subTest(price=price), self.assertRaises(TypeError):
                 citronreef.value("IR", price)
@@ -125,6 +141,18 @@ class DayFiles(unittest.TestCase):
                 self.assertEqual(said.corrected_by, max(naming, default=None))
                 self.assertEqual(said.change_cents, settlement.change_in_value(day, index))
             self.assertEqual(answer(citronreef.mark, whole, len(day.marks)), (12, len(day.marks)))
+
+    def test_words_of_a_mark(self):
+        for whole, index, said in (
+            (file(positions=[position()]), 99, "the file has no such mark"),
+            (file(positions=[position(), position(mark=7)]), 1, citronreef.WORDS[11]),
+            (file(positions=[position(), position(mark=99)]), 1, citronreef.WORDS[11]),
+        ):
+            with self.subTest(said=said), self.assertRaises(Refusal) as raised:
+                citronreef.mark(whole, 99)
+            refusal = raised.exception
+            self.assertEqual((refusal.number, refusal.index, refusal.words), (12, index, said))
+            self.assertEqual(pickle.loads(pickle.dumps(refusal)).words, said)
 
     def test_correction_with_number_0_decides(self):
         self.assertEqual(citronreef.mark(file(corrections=[correction(0, price=949_900)]), 0).corrected_by, 0)

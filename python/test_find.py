@@ -118,6 +118,13 @@ class Finding(unittest.TestCase):
         whole = file(contracts(MAX_MARKS + 1), [correction(mark=999)], [position(0)])
         self.assertEqual(found(whole), {2: 0})
 
+    def test_what_is_looked_at(self):
+        whole = file([mark()], [], [position(), position(0)])
+        self.assertEqual(found(b"\xff" * (HEADER_SIZE - 1)), {1: 0})
+        self.assertEqual(found(whole[:12] + b"\xff\xff" + whole[14:]), {3: 0, 13: 1})
+        self.assertEqual(found(whole[:-1]), {3: 0})
+        self.assertEqual(found(whole + bytes(RECORD_SIZE)), {3: 0, 13: 1})
+
     def test_no_check(self):
         for check in (-1, 0, 14, 15, 16, 2**32, 2**32 + 1, 2**64):
             self.assertIsNone(citronreef.find(b"", check))

@@ -60,9 +60,11 @@ flags() {
 bash tools/libraries
 bash tools/install PREFIX="$prefix" >/dev/null
 bash tools/install DESTDIR="$work/packaged" PREFIX=/usr >/dev/null
+documents=$prefix/share/doc/citronreef
 for file in bin/citronreef include/citronreef.h lib/libcitronreef.a lib/libcitronreef.so lib/libcitronreef.so.0 \
-    lib/libcitronreef.so.0.1.0 lib/pkgconfig/citronreef.pc lib/python3/dist-packages/citronreef/__init__.py share/man/man1/citronreef.1 \
-    share/bash-completion/completions/citronreef; do
+    lib/libcitronreef.so.0.1.0 lib/pkgconfig/citronreef.pc lib/python3/dist-packages/citronreef/__init__.py \
+    share/man/man1/citronreef.1 share/bash-completion/completions/citronreef \
+    share/doc/citronreef/{COMMAND,LIBRARY,REFUSALS,TEXT}.md share/doc/citronreef/samples/{case,day}.txt; do
     [ -f "$prefix/$file" ] || fail "$file is installed under PREFIX"
     [ -f "$work/packaged/usr/$file" ] || fail "$file is installed under DESTDIR"
 done
@@ -74,8 +76,12 @@ prints "the installed command runs" "citronreef 0.1.0" first_line "$prefix/bin/c
 completed=$(source "$prefix/share/bash-completion/completions/citronreef" && complete -p citronreef)
 [[ $completed = *'-F _citronreef citronreef' ]] || fail "bash completes the command's words: $completed"
 ok "bash completes the command's words"
-if bash tools/install prefix=/tmp 2>/dev/null || bash tools/install PREFIX=relative 2>/dev/null; then fail "install refuses other words"; fi
-ok "install refuses words that it does not know"
+for words in prefix=/tmp PREFIX= PREFIX=relative DESTDIR=relative 'PREFIX=/a$b' 'PREFIX=/a(b' $'PREFIX=/a\nb'; do
+    said=$(with_status 2 bash tools/install DESTDIR="$work/refused" "$words" 2>&1) || fail "install refuses $words: $said"
+    [ -n "$said" ] && [ ! -e "$work/refused" ] && [ ! -e relative ] || fail "install says why it refuses $words, and does nothing"
+done
+said=$(PREFIX='' with_status 2 bash tools/install DESTDIR="$work/refused" 2>&1) || fail "install refuses no PREFIX at all: $said"
+ok "install refuses words that it does not know, and folders that do not start with / or that pkg-config cannot say"
 
 # The shared library
 
@@ -109,6 +115,38 @@ prints "null with length 0, and files and sheets at any byte" "" "$work/lent"
 gcc -std=gnu11 "${warnings[@]}" -pthread "$programs/stack.c" "${with[@]}" -Wl,-rpath,"$prefix/lib" -o "$work/stack"
 stack=$("$work/stack") || fail "the stack that the header promises: $stack"
 ok "stack: $stack"
+
+# What docs/LIBRARY.md says of a folder that the loader does not know.
+mkdir "$work/told"
+cp "$programs/example.c" "$day" "$work/told"
+mv "$work/told/${day##*/}" "$work/told/day.bin"
+sed -n '/^### An install that the loader/,/^### Rust/s/^    //p' docs/LIBRARY.md |
+    sed "s|/opt/citronreef|$prefix|g" >"$work/told/commands"
+[ "$(wc -l <"$work/told/commands")" -eq 6 ] || fail "docs/LIBRARY.md says how the loader finds the library"
+prints "a run path, or LD_LIBRARY_PATH, as docs/LIBRARY.md says" "$settled"$'\n'"$settled" env -C "$work/told" bash -e commands
+
+# Folders with a space and with what sed, pkg-config or a shell would take as theirs: of an install, and of the repository itself.
+
+odd=$work/$'a b&c|d\\e\'f"g#h*i\\1@version@'
+from_odd() {
+    local PKG_CONFIG_PATH=$1
+    eval gcc "$programs/example.c" "$(flags --cflags --libs)" -o "$work/from_odd"
+    LD_LIBRARY_PATH=$1/$2 "$work/from_odd" <"$day"
+}
+bash tools/install PREFIX="$odd/prefix" >/dev/null
+prints "a C program with an odd PREFIX" "$settled" from_odd "$odd/prefix/lib/pkgconfig" ..
+prints "the Python module of an odd PREFIX" "$odd/prefix/lib/libcitronreef.so.0" \
+    env PYTHONPATH="$odd/prefix/lib/python3/dist-packages" python3 -c 'import citronreef; print(citronreef._library._name)'
+mkdir -p "$odd/work/target/staticlib"
+cp -r tools include "$odd/work"
+cp target/staticlib/libcitronreef.a "$odd/work/target/staticlib"
+bash "$odd/work/tools/libraries"
+prints "a C program with an odd repository" "$settled" from_odd "$odd/work/target/lib" .
+mkdir "$work/with(parentheses)"
+cp -r "$odd/work/"* "$work/with(parentheses)"
+told=$(bash "$work/with(parentheses)/tools/libraries" 2>&1) || fail "libraries where pkg-config cannot say the folder: $told"
+[[ $told = pkgconfig:* ]] && [ ! -e "$work/with(parentheses)/target/lib/citronreef.pc" ] || fail "no pkg-config file there: $told"
+ok "where pkg-config cannot say the folder, the libraries are made and it is told"
 
 # Python
 
@@ -147,6 +185,11 @@ built() {
 if told=$(built /nonexistent); then fail "no Rust build without the library"; fi
 grep -q 'There is no /nonexistent/libcitronreef.a. Run `' <<<"$told" || fail "a sentence where there is no library: $told"
 ok "a Rust build without the library says what to run"
+for folder in target/staticlib ''; do
+    if told=$(built "$folder"); then fail "no Rust build with a folder that does not start with /"; fi
+    grep -q "^ *CITRONREEF_LIB=$folder does not start with /\." <<<"$told" || fail "a sentence on a relative folder: $told"
+done
+ok "a Rust build with a relative CITRONREEF_LIB says so"
 told=$(built "$prefix/lib") || fail "a Rust program is built: $told"
 prints "a Rust program" "[24060, -9624] cents, AUD 14436, NZD 0, resent 1
 MarkPrices { previous: 950000, final_price: 950100, corrected_by: Some(7), change: 2406 }
@@ -155,23 +198,29 @@ Error: Refusal { number: 7, index: 0 }" with_status 1 "$work/rust/target/debug/e
 # Documents
 
 page=$prefix/share/man/man1/citronreef.1
-python3 - "$page" "$programs"/example.* <<'END' || exit 1
-"""docs/LIBRARY.md shows every program, and the manual page has every row of docs/REFUSALS.md."""
+python3 - "$page" "$documents" "$programs"/example.* <<'END' || exit 1
+"""LIBRARY.md shows every program, the manual page has every row of REFUSALS.md, and no page names a page that is not installed."""
 import re
 import sys
 from pathlib import Path
 
-shown = Path("docs/LIBRARY.md").read_text()
-page = Path(sys.argv[1]).read_text().replace("\\-", "-")
-for name in sys.argv[2:]:
+page, documents = Path(sys.argv[1]).read_text().replace("\\-", "-"), Path(sys.argv[2])
+shown, refusals = (Path(documents, name).read_text() for name in ("LIBRARY.md", "REFUSALS.md"))
+for text in (page, shown, refusals, Path("include/citronreef.h").read_text()):
+    for named in re.findall(r"(?!CHECKS)\b[A-Z]+\.md|samples/\w+\.txt", text):
+        if not Path(documents, named).exists():
+            sys.exit(f"installed: does not hold: {named} is installed")
+    if "docs/" in text:
+        sys.exit("installed: does not hold: pages are named by words that hold where they are installed")
+for name in sys.argv[3:]:
     program = "".join(f"    {line}".rstrip() + "\n" for line in Path(name).read_text().splitlines())
     if program not in shown:
         sys.exit(f"installed: does not hold: docs/LIBRARY.md shows {name}")
-for number, words in re.findall(r"^\| (\d+) \| (.*?) \|", Path("docs/REFUSALS.md").read_text(), re.MULTILINE):
+for number, words in re.findall(r"^\| (\d+) \| (.*?) \|", refusals, re.MULTILINE):
     if f"\n.B {number}\n{words[0].upper()}{words[1:]}.\n" not in page:
         sys.exit(f"installed: does not hold: the manual page has the words of {number}")
 END
-ok "docs/LIBRARY.md shows these programs, and the manual page the checks"
+ok "LIBRARY.md shows these programs, the manual page the checks, and the pages that are named are installed"
 for name in $("$prefix/bin/citronreef" --help | sed -n '/^Commands:/,/^$/s/^  \([a-z]*\) .*/\1/p'); do
     grep -q "^\.B citronreef $name\$" "$page" || fail "the manual page has the command $name"
     for option in $("$prefix/bin/citronreef" "$name" --help | sed -n 's/^ .* --\([a-z]*\).*/\1/p'); do
@@ -179,6 +228,17 @@ for name in $("$prefix/bin/citronreef" --help | sed -n '/^Commands:/,/^$/s/^  \(
     done
 done
 ok "the manual page has every command and every option"
+env -C "$documents" "$prefix/bin/citronreef" make samples/day.txt -o "$work/day.bin"
+prints "the examples of the manual page run beside the installed documents" "1001 IR 3 27 1810500 AUD" \
+    first_line "$prefix/bin/citronreef" sheet "$work/day.bin"
+row=$(with_status 1 "$prefix/bin/citronreef" explain --csv 2>/dev/null </dev/null) || fail "a refusal with --csv has status 1"
+[[ $row = refused,1,0,*'the file is shorter than 24 bytes'* ]] || fail "a refusal is one row of --csv: $row"
+with_status 2 "$prefix/bin/citronreef" sheet "$work/day.bin" -o "$work/day.bin" 2>/dev/null || fail "-o refuses its own input"
+[[ $("$prefix/bin/citronreef" --version) = *1,000,000* ]] || fail "--version prints the limit of lots"
+closed='import os, subprocess as s, sys; r, w = os.pipe(); os.close(r); print(s.run(sys.argv[1:], stdout=w, stderr=s.PIPE))'
+said=$(python3 -c "$closed" "$prefix/bin/citronreef" sheet "$work/day.bin")
+[[ $said = *"returncode=2, stderr=b'')" ]] || fail "a closed pipe is quiet: $said"
+ok "the command does what the manual page says of --csv, -o, --version and a closed pipe"
 if command -v groff >/dev/null; then
     groff -man -Tutf8 -ww "$page" >/dev/null 2>"$work/faults"
     prints "the manual page has no fault" "" cat "$work/faults"

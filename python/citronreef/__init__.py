@@ -9,8 +9,8 @@ Prices are Decimal, as quoted: Decimal("95.01"). Amounts are whole cents. A call
     Traceback (most recent call last):
     citronreef.answers.Refusal: refused 7 at 0: a mark's price is not a multiple of its product's tick
 
-The answers come from the proved library, libcitronreef.so. It is looked for under the name in CITRONREEF_LIBRARY, then where this
-package's own install or repository has it, then where the loader looks.
+The answers come from the proved library, libcitronreef.so: the one that CITRONREEF_LIBRARY names; or in the repository that of
+target/lib; or that of this package's own install; or where there is none of these, the one that the loader finds.
 """
 from __future__ import annotations
 
@@ -18,7 +18,7 @@ import ctypes
 from decimal import Decimal
 from typing import Optional, Union
 
-from .answers import WORDS, MarkPrices, Refusal, Settled
+from .answers import NO_BOND, NO_SUCH_MARK, WORDS, MarkPrices, Refusal, Settled
 from .library import MAX_POSITIONS, SHEET_SIZE, VERSION, Amounts, Sheet, loaded
 from .prices import price_of, scaled, units_of
 
@@ -83,9 +83,19 @@ def tick_value(code: str, price: Decimal) -> int:
     return _quoted("tick_value", code, price)
 
 
+def _listed(code: str) -> bool:
+    """Whether the product table has the code: the value of one that it does not have is refused with 4 at any price."""
+    return bool(_library.citronreef_value(*_letters(code), 0).refused != 4)
+
+
 def bracket(code: str, price: Decimal) -> Decimal:
-    """The bracket of a bond, with eight decimals."""
-    return scaled(_quoted("bracket", code, price), 8)
+    """The bracket of a bond, with eight decimals. A code of no bond is refused with 4, also where the product table has it."""
+    try:
+        return scaled(_quoted("bracket", code, price), 8)
+    except Refusal as refusal:
+        if refusal.number == 4 and _listed(code):
+            raise Refusal(4, words=NO_BOND) from None
+        raise
 
 
 def settle(file: Bytes) -> Settled:
@@ -98,11 +108,16 @@ def settle(file: Bytes) -> Settled:
 
 
 def mark(file: Bytes, index: int) -> MarkPrices:
-    """The prices of the mark with this index, from 0. A mark that the file does not have is refused with 12."""
+    """The prices of the mark with this index, from 0, of a file that passes checks 1 to 13.
+
+    A mark that the file does not have is refused with 12 at the index asked for.
+    """
     file, index = _bytes(file), _whole(index, "the index of a mark")
     if not 0 <= index <= _LARGEST_INDEX:
         raise ValueError(f"{index} is no index of a mark")
     said = _library.citronreef_mark(file, len(file), index)
+    if said.refused == 12 and find(file, 12) is None:
+        raise Refusal(12, said.index, NO_SUCH_MARK)
     if said.refused:
         raise Refusal(said.refused, said.index)
     return MarkPrices(
@@ -111,7 +126,13 @@ def mark(file: Bytes, index: int) -> MarkPrices:
 
 
 def find(file: Bytes, check: int) -> Optional[int]:
-    """The first record where the condition of a check, 1 to 13, holds; None where it holds nowhere, or there is no such check."""
+    """The first record where the condition of a check, 1 to 13, holds; None where it holds at nothing that is looked at.
+
+    Each condition is looked for by itself, so that one may be found that vanishes once an earlier one is mended. Not all of every
+    file is looked at: of one that is shorter than 24 bytes only check 1, and of one with a count above its limit only 1 to 3.
+    Otherwise the sections follow one another from byte 24 by the header's counts, whatever its offsets say, as far as the file
+    has whole records. A number of no check is answered with None.
+    """
     file, check = _bytes(file), _whole(check, "the number of a check")
     if not 0 <= check <= _LARGEST_CHECK:
         return None

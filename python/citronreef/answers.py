@@ -25,14 +25,23 @@ WORDS = (
 )
 
 
-class Refusal(Exception):
-    """A call that is turned away: the number of the check, the index of the record in its section, and the check in words."""
+# What 4 means for the bracket of a code that is listed, and 12 for a mark that is asked for.
+NO_BOND = "the code is of no bond, and only a bond has a bracket"
+NO_SUCH_MARK = "the file has no such mark"
 
-    def __init__(self, number: int, index: int = 0) -> None:
+
+class Refusal(Exception):
+    """A call that is turned away: the number of the check, the index of the record in its section, and the check in words.
+
+    The words are those of WORDS, but where a bracket or a mark is asked for that there is not.
+    """
+
+    def __init__(self, number: int, index: int = 0, words: Optional[str] = None) -> None:
         super().__init__(number, index)
         self.number = number
         self.index = index
-        self.words = WORDS[number - 1] if 1 <= number <= len(WORDS) else ""
+        by_number = WORDS[number - 1] if 1 <= number <= len(WORDS) else ""
+        self.words = by_number if words is None else words
 
     def __str__(self) -> str:
         return f"refused {self.number} at {self.index}: {self.words}"

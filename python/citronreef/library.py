@@ -1,4 +1,4 @@
-"""The shared library, and its functions as include/citronreef.h declares them."""
+"""The shared library, and its functions as citronreef.h declares them."""
 from __future__ import annotations
 
 import ctypes
@@ -48,24 +48,31 @@ _SIGNATURES = {
 }
 
 
-def _library_name() -> str:
-    """The file of the shared library, or its name for the loader to look for."""
-    named = os.environ.get("CITRONREEF_LIBRARY")
-    if named:
-        return named
-    name = "libcitronreef.so." + VERSION.split(".", maxsplit=1)[0]
-    above = Path(__file__).resolve().parent.parent.parent
-    beside = (above.parent / name, above / "target" / "lib" / name)
-    return next((str(path) for path in beside if path.exists()), name)
+_NAME = "libcitronreef.so." + VERSION.split(".", maxsplit=1)[0]
+
+
+def library_for(package: Path) -> str:
+    """The file of the shared library for a package in this folder, or the name by which the loader looks for it.
+
+    An install is known by its folders, and may leave the library to the loader. The repository has its own and no other.
+    """
+    if package.parts[-4:] == ("lib", "python3", "dist-packages", "citronreef"):
+        beside = package.parents[2] / _NAME
+        return str(beside) if beside.exists() else _NAME
+    if package.parts[-2:] == ("python", "citronreef"):
+        return str(package.parents[1] / "target" / "lib" / _NAME)
+    return _NAME
 
 
 def loaded() -> ctypes.CDLL:
     """The library with its functions declared; an ImportError that says what to do where there is none."""
-    name = _library_name()
+    name = os.environ.get("CITRONREEF_LIBRARY") or library_for(Path(__file__).resolve().parent)
     try:
         library = ctypes.CDLL(name)
     except OSError as error:
-        raise ImportError(f"{name} cannot be loaded ({error}); name the library in CITRONREEF_LIBRARY") from error
+        raise ImportError(
+            f"{name} cannot be loaded ({error}); name the library in CITRONREEF_LIBRARY, or in the repository run: bash tools/build"
+        ) from error
     for function, (answer, arguments) in _SIGNATURES.items():
         try:
             declared = getattr(library, "citronreef_" + function)

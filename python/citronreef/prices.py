@@ -12,7 +12,9 @@ def units_of(price: Decimal) -> int:
     """The whole number of units of 0.0001 that a price is: Decimal("95.01") is 950100."""
     if not isinstance(price, Decimal):
         raise TypeError(f"a price is a Decimal, as Decimal('95.01'), and not {type(price).__name__}")
-    if not price.is_finite() or not 0 <= price <= _LARGEST:
+    if price.is_nan():
+        raise ValueError(f"{price} is no price: it is no number")
+    if not 0 <= price <= _LARGEST:
         raise ValueError(f"{price} is no price: it is below 0, or too large for a day file")
     rounded = price.quantize(_UNIT, context=_EXACT)
     if rounded != price:

@@ -13,7 +13,8 @@ use std::fmt;
 pub struct Refusal {
     /// The number of the check.
     pub number: u32,
-    /// The first record of the check's section where its condition holds; 0 where it looks at no single record.
+    /// The first record of the check's section where its condition holds; 0 where it looks at no single record. Where a mark is
+    /// asked for that the file does not have, it is the one asked for.
     pub index: usize,
 }
 
@@ -48,7 +49,8 @@ impl Refusal {
         Refusal { number, index: 0 }
     }
 
-    /// The condition of the check, in words.
+    /// The condition of the check, in words. They go by the number alone; [`bracket`](crate::bracket) and [`mark`](crate::mark)
+    /// say what else 4 and 12 mean there.
     ///
     /// ```
     /// let refusal = citronreef::settle(&[], &mut []).unwrap_err();

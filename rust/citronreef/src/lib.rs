@@ -37,10 +37,12 @@ pub fn tick_value(code: [u8; 2], price: u32) -> Result<u64, Refusal> {
     unsafe { sys::citronreef_tick_value(code[0], code[1], price) }.answer()
 }
 
-/// The bracket of a bond, in units of 10^-8.
+/// The bracket of a bond, in units of 10^-8. Only a bond has one: 4 means here that the code is of no bond, also where the product
+/// table has it. The words of a [`Refusal`] go by its number alone and do not say that.
 ///
 /// ```
 /// assert_eq!(citronreef::bracket(*b"YT", 940_000), Ok(10_000_000_153));
+/// assert!(citronreef::value(*b"IR", 940_000).is_ok());
 /// assert_eq!(citronreef::bracket(*b"IR", 940_000).unwrap_err().number, 4);
 /// ```
 pub fn bracket(code: [u8; 2], price: u32) -> Result<u64, Refusal> {
@@ -72,7 +74,9 @@ pub fn settle(file: &[u8], amounts: &mut [i64]) -> Result<Settled, Refusal> {
 
 /// The prices of the mark with this index of a day file that passes checks 1 to 13, the correction that decides, and the change
 /// in value of one contract. A file that does not pass is refused as `settle` refuses it; a mark that it does not have is refused
-/// with 12, and the index is the one asked for.
+/// with 12, and the index is the one asked for. So 12 has two meanings here: where [`find`] finds 12, a position of the file names
+/// no mark, and where it does not, the file has no such mark. The words of a [`Refusal`] go by its number alone and tell of the
+/// first.
 ///
 /// ```
 /// use citronreef::records::{Correction, Day, Mark};
@@ -87,6 +91,7 @@ pub fn settle(file: &[u8], amounts: &mut [i64]) -> Result<Settled, Refusal> {
 /// assert_eq!((said.previous, said.final_price), (950_000, 950_100));
 /// assert_eq!((said.corrected_by, said.change), (Some(7), 2_406));
 /// assert_eq!(mark(&day.bytes(), 1), Err(Refusal { number: 12, index: 1 }));
+/// assert_eq!(citronreef::find(&day.bytes(), 12), None);
 /// # Ok::<(), Refusal>(())
 /// ```
 pub fn mark(file: &[u8], mark: usize) -> Result<MarkPrices, Refusal> {
@@ -94,10 +99,13 @@ pub fn mark(file: &[u8], mark: usize) -> Result<MarkPrices, Refusal> {
     unsafe { sys::citronreef_mark(file.as_ptr(), file.len(), mark) }.answer()
 }
 
-/// The first record of a day file where the condition of the check with this number, 1 to 13, holds; none where it holds
-/// nowhere. Each condition is looked for by itself, so that one may be found that vanishes once an earlier one is mended. Of a
-/// file that is shorter than its header only 1 is looked for, and of one with a count above its limit only 1 to 3; of one that
-/// is shorter than its counts say, the records that it has whole are looked at. No other number is found.
+/// The first record of a day file where the condition of the check with this number, 1 to 13, holds; none where it holds at
+/// nothing that is looked at, and for a number of no check. Each condition is looked for by itself, so that one may be found that
+/// vanishes once an earlier one is mended.
+///
+/// Not all of every file is looked at: of one that is shorter than 24 bytes only check 1, and of one with a count above its limit
+/// only 1 to 3. Otherwise the sections follow one another from byte 24 by the header's counts, whatever its offsets say, as far as
+/// the file has whole records.
 ///
 /// ```
 /// use citronreef::find;
@@ -112,6 +120,9 @@ pub fn mark(file: &[u8], mark: usize) -> Result<MarkPrices, Refusal> {
 /// assert_eq!(find(&day.bytes(), 7), Some(0));
 /// assert_eq!(find(&day.bytes(), 8), None);
 /// assert_eq!(find(&day.bytes(), 13), Some(1));
+/// assert_eq!(find(&day.bytes(), 14), None);
+/// // A file that is cut short has one whole position, and that one passes.
+/// assert_eq!((find(&day.bytes()[..50], 3), find(&day.bytes()[..50], 13)), (Some(0), None));
 /// ```
 pub fn find(file: &[u8], check: u32) -> Option<usize> {
     // SAFETY: as in `mark`.
