@@ -1,11 +1,11 @@
 //! The command line: commands, options, help and version.
 
-use crate::ending::Failure;
+use crate::ending::{complain, Failure};
 use crate::money::whole_text;
 use crate::output;
-use crate::quoted::{code_of, price_of};
-use citronreef::records::{MAX_CORRECTIONS, MAX_MARKS, MAX_POSITIONS, PRICE_LIMIT, UNITS_PER_POINT};
-use clap::{Parser, Subcommand};
+use crate::quoted::{code_of, escaped, price_of};
+use citronreef::records::{MAX_CORRECTIONS, MAX_LOTS, MAX_MARKS, MAX_POSITIONS, PRICE_LIMIT, UNITS_PER_POINT};
+use clap::{Parser, Subcommand, ValueHint};
 use clap_complete::Shell;
 use std::path::PathBuf;
 use std::process;
@@ -65,7 +65,7 @@ pub enum Command {
     #[command(after_help = "Example:\n  citronreef make day.txt -o day.bin")]
     Make {
         /// The readable text; standard input where there is none, or where it is -
-        #[arg(value_name = "TEXT")]
+        #[arg(value_name = "TEXT", value_hint = ValueHint::FilePath)]
         text: Option<PathBuf>,
         /// Write the file even where it would be refused
         #[arg(long)]
@@ -91,14 +91,14 @@ pub enum Command {
 #[derive(clap::Args)]
 pub struct Input {
     /// The day file; standard input where there is none, or where it is -
-    #[arg(value_name = "FILE")]
+    #[arg(value_name = "FILE", value_hint = ValueHint::FilePath)]
     pub file: Option<PathBuf>,
 }
 
 #[derive(clap::Args)]
 pub struct Output {
     /// Write to this file, which is replaced as a whole or not at all
-    #[arg(short, long, value_name = "OUT")]
+    #[arg(short, long, value_name = "OUT", value_hint = ValueHint::FilePath)]
     pub out: Option<PathBuf>,
 }
 
@@ -116,8 +116,9 @@ pub struct Contract {
 fn version() -> &'static str {
     let (limit, decimals) = (PRICE_LIMIT / UNITS_PER_POINT, PRICE_LIMIT % UNITS_PER_POINT);
     let [marks, corrections, positions] = [MAX_MARKS, MAX_CORRECTIONS, MAX_POSITIONS].map(|most| whole_text(most as i64));
+    let lots = whole_text(MAX_LOTS.into());
     let text = format!(
-        "{}\nprices from 0.0000 to {limit}.{decimals:04} in units of 0.0001\n\
+        "{}\nprices from 0.0000 to {limit}.{decimals:04} in units of 0.0001\nlots from -{lots} to {lots}\n\
          at most {marks} marks, {corrections} corrections and {positions} positions in a day file",
         citronreef::VERSION,
     );
@@ -129,7 +130,7 @@ pub fn parsed() -> Result<Option<Command>, Failure> {
     match Arguments::try_parse() {
         Ok(arguments) => Ok(Some(arguments.command)),
         Err(error) if error.use_stderr() => {
-            let _ = error.print();
+            complain(&escaped(&error.render().to_string(), |c| c == '\n'));
             process::exit(2)
         }
         Err(help) => output::write(help.render().to_string().as_bytes(), None).map(|()| None),

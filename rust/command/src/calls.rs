@@ -36,21 +36,22 @@ fn ended(contract: &Contract, answer: Result<u64, Refusal>, text: impl Fn(u64) -
             Ok(Ending::Accepted)
         }
         Err(refusal) => {
-            complain(&format!("refused {}: {}; {}\n", refusal.number, refusal.words(), why(contract, refusal.number)));
+            complain(&format!("refused {}: {}\n", refusal.number, why(contract, refusal)));
             Ok(Ending::Refused)
         }
     }
 }
 
-/// What of this contract meets the check's words.
-fn why(contract: &Contract, check: u32) -> String {
+/// The check's words, and what of this contract meets them. The code of a product that is no bond is in the table all the same.
+fn why(contract: &Contract, refusal: Refusal) -> String {
     let (code, price) = (code_text(contract.code), price_text(contract.price));
     let tick = product(contract.code).map_or(0, |product| product.tick);
-    match check {
-        4 if tick > 0 => format!("{code} is no bond, and only a bond has a bracket"),
+    let here = match refusal.number {
+        4 if tick > 0 => return format!("{code} is no bond, and only a bond has a bracket"),
         4 => format!("the code here is {}", code_spelled(contract.code)),
         7 => format!("the price here is {price}, and the tick of {code} is {}", price_text(tick)),
         15 => format!("one tick above {price} is {}", price_text(contract.price + tick)),
         _ => format!("the price here is {price}"),
-    }
+    };
+    format!("{}; {here}", refusal.words())
 }

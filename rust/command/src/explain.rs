@@ -16,8 +16,8 @@ pub use refused::refusal_text;
 use settlement::Settlement;
 use std::path::Path;
 
-/// Explains a day file, or the day file of a readable text. A refusal is explained where the settlement would stand, but a spreadsheet gets
-/// nothing that is not of its table.
+/// Explains a day file, or the day file of a readable text. A refusal is explained where the settlement would stand; a spreadsheet gets one
+/// row there that says so.
 pub fn run(file: Option<&Path>, is_text: bool, csv: bool, out: Option<&Path>) -> Ended {
     let (bytes, lines) = match is_text {
         true => match readable::made(file)? {
@@ -38,10 +38,11 @@ pub fn run(file: Option<&Path>, is_text: bool, csv: bool, out: Option<&Path>) ->
     if !is_text && looks_like_text(&bytes) {
         text.push_str("\nThis looks like a readable text: try --text.\n");
     }
-    match csv {
-        true => complain(&text),
-        false => output::write(text.as_bytes(), out)?,
+    if csv {
+        complain(&text);
+        text = csv::refusal_row(refusal);
     }
+    output::write(text.as_bytes(), out)?;
     Ok(Ending::Refused)
 }
 

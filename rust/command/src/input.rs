@@ -1,9 +1,11 @@
 //! Reads a file or standard input, up to a number of bytes.
 
 use crate::ending::{say, Failure};
+use crate::quoted::path_text;
 use crate::streams::Stream;
-use std::fs::File;
+use std::fs::{self, File, Metadata};
 use std::io::{self, ErrorKind, Read};
+use std::os::unix::io::AsRawFd;
 use std::path::Path;
 
 /// What the bytes are read as.
@@ -20,19 +22,23 @@ fn named(file: Option<&Path>) -> Option<&Path> {
 
 /// The input's name in a sentence.
 pub fn name(file: Option<&Path>) -> String {
-    named(file).map_or_else(|| "standard input".to_string(), |path| path.display().to_string())
+    named(file).map_or_else(|| "standard input".to_string(), path_text)
+}
+
+/// What the system says of the input.
+pub fn metadata(file: Option<&Path>) -> io::Result<Metadata> {
+    named(file).map_or_else(|| Stream::INPUT.file().metadata(), fs::metadata)
 }
 
 /// The first bytes of a file, or of standard input where none is named: all of them, or as many as `most`.
 pub fn read(file: Option<&Path>, kind: Kind, most: usize) -> Result<Vec<u8>, Failure> {
-    let bytes = match named(file) {
-        Some(path) => File::open(path).and_then(|file| first(file, most)),
-        None => {
-            terminal(kind)?;
-            first(&*Stream::Input.file(), most)
-        }
-    };
-    bytes.map_err(|error| Failure(format!("{} cannot be read: {error}", name(file))))
+    let unread = |error| Failure(format!("{} cannot be read: {error}", name(file)));
+    let opened = named(file).map(File::open).transpose().map_err(unread)?;
+    let stream = opened.as_ref().map_or(Stream::INPUT, |file| Stream(file.as_raw_fd()));
+    if stream.is_terminal() {
+        terminal(&name(file), kind)?;
+    }
+    first(&*stream.file(), most).map_err(unread)
 }
 
 /// The same of an input that has to be read whole: a longer one is a failure.
@@ -45,15 +51,14 @@ pub fn read_whole(file: Option<&Path>, kind: Kind, most: usize) -> Result<Vec<u8
 }
 
 /// Nobody types a day file, so a terminal is taken for a file that was forgotten. A text may be typed.
-fn terminal(kind: Kind) -> Result<(), Failure> {
-    match (Stream::Input.is_terminal(), kind) {
-        (false, _) => {}
-        (true, Kind::DayFile) => {
-            return Err(Failure("standard input is a terminal: name a FILE, or send a day file through a pipe".to_string()));
+fn terminal(name: &str, kind: Kind) -> Result<(), Failure> {
+    match kind {
+        Kind::DayFile => Err(Failure(format!("{name} is a terminal: name a FILE, or send a day file through a pipe"))),
+        Kind::Text => {
+            say("reading a text from the terminal: end it with Ctrl-D on a line of its own");
+            Ok(())
         }
-        (true, Kind::Text) => say("reading a text from the terminal: end it with Ctrl-D on a line of its own"),
     }
-    Ok(())
 }
 
 fn first(mut source: impl Read, most: usize) -> io::Result<Vec<u8>> {

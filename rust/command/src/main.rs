@@ -4,6 +4,7 @@
 
 mod arguments;
 mod calls;
+mod completions;
 mod day;
 mod ending;
 mod explain;
@@ -16,36 +17,47 @@ mod quoted;
 mod readable;
 mod sheet;
 mod streams;
+mod target;
 mod text;
 
-use arguments::{Arguments, Command};
-use clap::CommandFactory;
-use clap_complete::Shell;
-use ending::{Ended, Ending};
+use arguments::Command;
+use ending::{Ended, Ending, Failure};
 use std::panic;
+use std::path::{Path, PathBuf};
 
 /// The exit status of a Rust program that panics.
 const PANICKED: i32 = 101;
 
-fn completions(shell: Shell) -> Ended {
-    let mut script = Vec::new();
-    clap_complete::generate(shell, &mut Arguments::command(), "citronreef", &mut script);
-    output::write(&script, None)?;
-    Ok(Ending::Accepted)
+type Paths<'a> = (Option<&'a Path>, Option<&'a Path>);
+
+/// What is read and what is written, which may not be one file.
+fn paths<'a>(input: &'a Option<PathBuf>, out: &'a Option<PathBuf>) -> Result<Paths<'a>, Failure> {
+    let (input, out) = (input.as_deref(), out.as_deref());
+    output::apart(input, out).map(|()| (input, out))
 }
 
 fn run(command: Command) -> Ended {
     match command {
-        Command::Sheet { input, output } => sheet::run(input.file.as_deref(), output.out.as_deref()),
+        Command::Sheet { input, output } => {
+            let (file, out) = paths(&input.file, &output.out)?;
+            sheet::run(file, out)
+        }
         Command::Explain { input, text, csv, output } => {
-            explain::run(input.file.as_deref(), text, csv, output.out.as_deref())
+            let (file, out) = paths(&input.file, &output.out)?;
+            explain::run(file, text, csv, out)
         }
         Command::Value(contract) => calls::value(&contract),
         Command::Tick(contract) => calls::tick(&contract),
         Command::Bracket(contract) => calls::bracket(&contract),
-        Command::Make { text, anyway, output } => readable::make(text.as_deref(), anyway, output.out.as_deref()),
-        Command::Show { input, output } => readable::show(input.file.as_deref(), output.out.as_deref()),
-        Command::Completions { shell } => completions(shell),
+        Command::Make { text, anyway, output } => {
+            let (file, out) = paths(&text, &output.out)?;
+            readable::make(file, anyway, out)
+        }
+        Command::Show { input, output } => {
+            let (file, out) = paths(&input.file, &output.out)?;
+            readable::show(file, out)
+        }
+        Command::Completions { shell } => completions::run(shell),
     }
 }
 
@@ -60,6 +72,6 @@ fn ended() -> Ended {
 /// word, and a file that cannot be read is an empty one.
 #[cfg_attr(not(test), export_name = "main")]
 pub extern "C" fn start() -> i32 {
-    streams::ignore_broken_pipes();
+    streams::ignore_signals_of_writing();
     panic::catch_unwind(|| ending::status(ended())).unwrap_or(PANICKED)
 }

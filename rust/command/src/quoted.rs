@@ -1,6 +1,7 @@
 //! Prices and contracts as people write them.
 
 use citronreef::records::Mark;
+use std::path::Path;
 
 const MONTHS: [&str; 12] = ["Jan", "Feb", "Mar", "Apr", "May", "Jun", "Jul", "Aug", "Sep", "Oct", "Nov", "Dec"];
 const UNITS: u32 = 10_000;
@@ -121,6 +122,17 @@ pub fn told(word: &str) -> String {
     } else {
         start
     }
+}
+
+/// A path as messages repeat it, with control characters escaped, so that it stays in one line and moves no cursor.
+pub fn path_text(path: &Path) -> String {
+    escaped(&path.to_string_lossy(), |_| false)
+}
+
+/// A text with its control characters escaped, but for those that are kept.
+pub fn escaped(text: &str, kept: impl Fn(char) -> bool) -> String {
+    let shown = |c: char| if c.is_control() && !kept(c) { c.escape_default().to_string() } else { c.to_string() };
+    text.chars().map(shown).collect()
 }
 
 #[cfg(test)]

@@ -30,7 +30,8 @@ pub fn made(file: Option<&Path>) -> Result<Option<Made>, Failure> {
 /// Makes the file of a text, unless it would be refused.
 pub fn make(file: Option<&Path>, anyway: bool, out: Option<&Path>) -> Ended {
     if output::is_terminal(out) {
-        return Err(Failure("standard output is a terminal, and a day file is no text: name a file with -o".to_string()));
+        let name = output::name(out);
+        return Err(Failure(format!("{name} is a terminal, and a day file is no text: name a file with -o")));
     }
     let made = match made(file)? {
         Some(made) => made,

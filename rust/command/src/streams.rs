@@ -1,14 +1,12 @@
-//! Standard input and output without buffers: whether each is a terminal, and failures as the system tells them.
+//! Open descriptors without buffers: whether one is a terminal, and failures as the system tells them.
 
 use std::fs::File;
 use std::mem::ManuallyDrop;
 use std::os::unix::io::FromRawFd;
 
-#[derive(Clone, Copy)]
-pub enum Stream {
-    Input = 0,
-    Output = 1,
-}
+/// An open descriptor by its number.
+#[derive(Clone, Copy, Debug, PartialEq, Eq)]
+pub struct Stream(pub i32);
 
 extern "C" {
     fn isatty(descriptor: i32) -> i32;
@@ -16,23 +14,29 @@ extern "C" {
 }
 
 const SIGPIPE: i32 = 13;
+const SIGXFSZ: i32 = 25;
 const SIG_IGN: usize = 1;
 
-/// Makes writing to a pipe that nobody reads a failure like any other.
-pub fn ignore_broken_pipes() {
-    // SAFETY: ignoring a signal runs no code of ours.
-    unsafe { signal(SIGPIPE, SIG_IGN) };
+/// Makes it a failure like any other to write to a pipe that nobody reads, or to a file that may not grow.
+pub fn ignore_signals_of_writing() {
+    for number in [SIGPIPE, SIGXFSZ] {
+        // SAFETY: ignoring a signal runs no code of ours.
+        unsafe { signal(number, SIG_IGN) };
+    }
 }
 
 impl Stream {
+    pub const INPUT: Stream = Stream(0);
+    pub const OUTPUT: Stream = Stream(1);
+
     pub fn is_terminal(self) -> bool {
         // SAFETY: takes any number.
-        unsafe { isatty(self as i32) == 1 }
+        unsafe { isatty(self.0) == 1 }
     }
 
-    /// The stream as a file, which stays open. Where it was closed from the start, reading and writing fail.
+    /// The descriptor as a file, which stays open. Where it was closed from the start, reading and writing fail.
     pub fn file(self) -> ManuallyDrop<File> {
         // SAFETY: the descriptor is never closed by this owner, and a closed one is an error of each call.
-        ManuallyDrop::new(unsafe { File::from_raw_fd(self as i32) })
+        ManuallyDrop::new(unsafe { File::from_raw_fd(self.0) })
     }
 }

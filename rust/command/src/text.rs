@@ -6,24 +6,18 @@ mod layout;
 mod lines;
 mod making;
 mod names;
+mod places;
 mod showing;
 #[cfg(test)]
 mod tests;
 mod words;
 
 pub use making::made;
+pub use places::Lines;
 pub use showing::shown;
 
 use std::error::Error;
 use std::fmt;
-
-/// The line of each record in its text, from 1, in the order of the file.
-#[derive(Clone, Debug, Default, PartialEq, Eq)]
-pub struct Lines {
-    pub marks: Vec<usize>,
-    pub corrections: Vec<usize>,
-    pub positions: Vec<usize>,
-}
 
 /// A file that was made of a text, and where its records stand there.
 #[derive(Clone, Debug, PartialEq, Eq)]

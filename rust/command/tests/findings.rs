@@ -57,3 +57,17 @@ Other conditions that hold, each with its first record. One may vanish when the 
 ";
     assert!(ran.out.starts_with("refused 7 at 0: ") && ran.out.ends_with(expected), "{}", ran.out);
 }
+
+/// Both records of a clash are named, although another check refuses the file.
+#[test]
+fn clashes_name_both_records() {
+    let text = "mark IR 3 27 95.005 95.01\nmark BB 3 27 95.00 95.02\n# the same again\nmark BB 3 27 95.00 95.03\n\
+                correction 15 @1 95.00\ncorrection 15 @1 95.01\n";
+    let ran = run(&["explain", "--text"], text.as_bytes());
+    assert_eq!(ran.status, 1);
+    let expected = "
+   8 at 2: two marks agree in code, month and year (mark 2, BB Mar 27, as mark 1; line 4 of the text, byte 48 of the file)
+  11 at 1: two corrections agree in number but differ in mark or price (correction 1, number 15, as correction 0; line 6 of the text, byte 72 of the file)
+";
+    assert!(ran.out.starts_with("refused 7 at 0: ") && ran.out.ends_with(expected), "{}", ran.out);
+}

@@ -40,27 +40,33 @@ fn with_header(place: usize, number: u32) -> Vec<u8> {
     file
 }
 
+const UNREAD: &str = "  The records are not looked at: other mistakes may be there.";
+
 #[test]
 fn header_and_length() {
-    has_lines(&explained(&[7; 23], 1, 0), &["  The file has 23 bytes, and its header alone has 24."]);
+    has_lines(&explained(&[7; 23], 1, 0), &["  The file has 23 bytes, and its header alone has 24.", UNREAD]);
     has_lines(
         &explained(&with_header(0, 257), 2, 0),
         &[
-            "  marks                                257            256  <-- above the limit",
-            "  positions                              7          4,096",
+            "                             at byte   the file has        at most",
+            "  marks                            0            257            256  <-- above the limit",
+            "  positions                       16              7          4,096",
+            UNREAD,
         ],
     );
     has_lines(
         &explained(&with_header(3, 97), 3, 0),
         &[
-            "  offset of the corrections             97             96  <-- differs",
-            "  offset of the positions              144            144",
-            "  length in bytes                      228            228",
+            "  offset of the corrections       12             97             96  <-- differs",
+            "  offset of the positions         20            144            144",
+            "  length in bytes                               228            228",
         ],
     );
     let mut longer = sample().bytes();
     longer.push(0);
-    has_lines(&explained(&longer, 3, 0), &["  length in bytes                      229            228  <-- differs"]);
+    let text = explained(&longer, 3, 0);
+    has_lines(&text, &["  length in bytes                               229            228  <-- differs"]);
+    assert!(!text.contains(UNREAD), "{text}");
 }
 
 #[test]
@@ -166,51 +172,6 @@ fn positions() {
         (-1_000_001, "    lots            -1,000,001    <-- below -1,000,000"),
     ] {
         edited(|day| day.positions[4].lots = lots, 13, 4, &[head, "    account         1003", line]);
-    }
-}
-
-#[test]
-fn a_text_is_told_by_its_lines() {
-    let text = include_str!("../../../samples/day.txt").replace("1002 BB/3/27 -120", "1002 BB/3/27 0");
-    let line = 1 + text.lines().position(|line| line.starts_with("position 1002 BB")).expect("the position");
-    let head = format!("  position 2 (the 3rd of 7), line {line} of the text, 12 bytes from byte 168 of the file");
-    let ran = run(&["explain", "--text"], text.as_bytes());
-    assert_eq!(ran.status, 1);
-    has_lines(&ran.out, &["refused 13 at 2: a position's lots are 0, below -1,000,000 or above 1,000,000", &head]);
-    let made = run(&["make"], text.as_bytes());
-    assert_eq!((made.status, made.out.as_str()), (1, ""));
-    has_lines(&made.err, &[&head, "citronreef: nothing is written; --anyway writes the file all the same"]);
-    let forgotten = run(&["explain"], text.as_bytes());
-    assert_eq!(forgotten.status, 1);
-    has_lines(&forgotten.out, &["This looks like a readable text: try --text."]);
-}
-
-#[test]
-fn contracts() {
-    let words = table::words();
-    for (call, number, told) in [
-        (["value", "ZZ", "95.00"], 4, "the code here is ZZ"),
-        (["bracket", "IR", "95.00"], 4, "IR is no bond, and only a bond has a bracket"),
-        (["tick", "IR", "100.01"], 6, "the price here is 100.01"),
-        (["value", "IR", "95.005"], 7, "the price here is 95.005, and the tick of IR is 0.01"),
-        (["bracket", "YT", "940001u"], 7, "the price here is 94.0001, and the tick of YT is 0.005"),
-        (["tick", "IR", "100.00"], 15, "one tick above 100.00 is 100.01"),
-    ] {
-        let Ran { status, out, err } = run(&call, b"");
-        assert_eq!((status, out.as_str()), (1, ""));
-        assert_eq!(err, format!("refused {number}: {}; {told}\n", words[number - 1]));
-    }
-    for (call, printed) in [
-        (["value", "IR", "95.00"], "987821.38 AUD\n"),
-        (["value", "IR", "95.01"], "987845.44 AUD\n"),
-        (["value", "BB", "950100u"], "987845.44 NZD\n"),
-        (["tick", "IR", "95.00"], "24.06 AUD\n"),
-        (["tick", "IB", "95.000"], "12.33 AUD\n"),
-        (["bracket", "YT", "94.000"], "100.00000153\n"),
-        (["value", "XX", "100.0"], "90000.00 AUD\n"),
-    ] {
-        let Ran { status, out, err } = run(&call, b"");
-        assert_eq!((status, out.as_str(), err.as_str()), (0, printed, ""));
     }
 }
 

@@ -4,28 +4,15 @@ mod days;
 mod process;
 
 use days::sample;
-use process::{run, shell, Folder, Ran, COMMAND};
+use process::{fails, run, shell, text, Folder, COMMAND};
 use std::fs::{self, File};
 use std::io::Write;
-use std::os::unix::fs::PermissionsExt;
-use std::path::Path;
 use std::process::{Command, Stdio};
-
-/// A failure: status 2, one line that has these words, and nothing on standard output.
-fn fails(ran: &Ran, words: &str) {
-    assert_eq!((ran.status, ran.out.as_str()), (2, ""), "{}", ran.err);
-    assert!(ran.err.starts_with("citronreef: ") && ran.err.contains(words), "{}", ran.err);
-    assert_eq!(ran.err.matches('\n').count(), 1, "{}", ran.err);
-}
 
 fn refused_file() -> Vec<u8> {
     let mut day = sample();
     day.positions[3].lots = 0;
     day.bytes()
-}
-
-fn text(path: &Path) -> &str {
-    path.to_str().expect("a path in letters")
 }
 
 #[test]
@@ -45,14 +32,20 @@ fn accepted_refused_and_wrong_usage() {
     }
 }
 
+/// Where the rows would stand is one that says why there are none, so that no older file is taken for today's.
 #[test]
-fn a_refusal_leaves_a_spreadsheet_empty() {
+fn a_refusal_is_one_row_of_a_spreadsheet() {
     let folder = Folder::new("spreadsheet");
-    let out = folder.path("day.csv");
+    let out = folder.file("day.csv", b"yesterday's rows\n");
+    let row = "refused,13,3,\"a position's lots are 0, below -1,000,000 or above 1,000,000\"\n";
     let ran = run(&["explain", "--csv", "-o", text(&out)], &refused_file());
     assert_eq!((ran.status, ran.out.as_str()), (1, ""));
+    assert!(ran.err.starts_with("refused 13 at 3: ") && ran.err.contains("<-- no lots"), "{}", ran.err);
+    assert_eq!(fs::read_to_string(&out).expect("a row"), row);
+    let ran = run(&["explain", "--csv"], &refused_file());
+    assert_eq!((ran.status, ran.out.as_str()), (1, row));
     assert!(ran.err.starts_with("refused 13 at 3: "), "{}", ran.err);
-    assert!(folder.names().is_empty());
+    assert_eq!(run(&["explain", "--csv"], b"").out, "refused,1,0,the file is shorter than 24 bytes\n");
 }
 
 #[test]
@@ -91,6 +84,23 @@ fn what_cannot_be_written() {
     assert_eq!(folder.names(), ["day.bin"]);
 }
 
+/// A name with a newline or an escape in it is told in one line that moves no cursor.
+#[test]
+fn names_with_control_characters() {
+    let folder = Folder::new("controls");
+    let out = folder.path("no\nfolder\u{1b}/out");
+    for command in [&["sheet"][..], &["explain", "--text"], &["make"]] {
+        fails(&run(&[command, &["a\nb\u{1b}[2J"]].concat(), b""), "citronreef: a\\nb\\u{1b}[2J cannot be read: ");
+    }
+    fails(&run(&["sheet", "-o", text(&out)], b""), "/no\\nfolder\\u{1b}/out cannot be written: ");
+    let mistake = folder.file("a\nb", b"marks");
+    let ran = run(&["make", text(&mistake)], b"");
+    assert!(ran.err.contains("/a\\nb, line 1, field 1: ") && ran.err.matches('\n').count() == 1, "{}", ran.err);
+    let ran = run(&["sheet", "a", "b\u{1b}[2J"], b"");
+    assert_eq!(ran.status, 2);
+    assert!(ran.err.starts_with("error: ") && !ran.err.contains('\u{1b}'), "{}", ran.err);
+}
+
 /// The pipe is closed before the command has anything to write.
 #[test]
 fn a_closed_pipe() {
@@ -103,42 +113,6 @@ fn a_closed_pipe() {
         let output = child.wait_with_output().expect("an end");
         assert_eq!((output.status.code(), output.stderr), (Some(2), vec![]));
     }
-}
-
-#[test]
-fn a_file_is_replaced_as_a_whole() {
-    let folder = Folder::new("replaced");
-    let file = folder.file("day.bin", &sample().bytes());
-    let sheet = run(&["sheet"], &sample().bytes()).out;
-    let out = folder.file("out", b"an older sheet");
-    fs::set_permissions(&out, fs::Permissions::from_mode(0o600)).expect("a file of the test's own");
-    let link = folder.path("link");
-    std::os::unix::fs::symlink("out", &link).expect("a link");
-    for name in ["out", "link", "new"] {
-        let ran = run(&["sheet", text(&file), "-o", text(&folder.path(name))], b"");
-        assert_eq!((ran.status, ran.out, ran.err), (0, String::new(), String::new()));
-        assert_eq!(fs::read_to_string(folder.path(name)).expect("a sheet"), sheet);
-    }
-    assert_eq!(fs::metadata(&out).expect("a sheet").permissions().mode() & 0o777, 0o600);
-    assert!(fs::symlink_metadata(&link).expect("a link").file_type().is_symlink());
-    assert_eq!(run(&["sheet", "-o", text(&out)], b"").status, 1);
-    assert_eq!(fs::read(&out).expect("a sheet"), b"refused 1 at 0\n");
-    assert_eq!(run(&["sheet", text(&file), "-o", "/dev/null"], b"").status, 0);
-    assert_eq!(folder.names(), ["day.bin", "link", "new", "out"]);
-}
-
-/// No file may be longer than 512 bytes (a block of `ulimit -f`), so that a write fails after a part.
-#[test]
-fn a_write_that_fails_half_way_leaves_the_old_file() {
-    let folder = Folder::new("half");
-    let file = folder.file("day.bin", &sample().bytes());
-    let out = folder.file("out", b"an older explanation");
-    let limited = "trap '' XFSZ; ulimit -f 1; exec \"$0\" explain \"$1\" -o \"$2\"";
-    fails(&shell(limited, &[&file, &out]), "cannot be written: File too large");
-    assert_eq!(fs::read(&out).expect("the old file"), b"an older explanation");
-    assert_eq!(folder.names(), ["day.bin", "out"]);
-    fails(&shell(limited, &[&file, &folder.path("new")]), "cannot be written: File too large");
-    assert_eq!(folder.names(), ["day.bin", "out"]);
 }
 
 /// The process may have 64 MiB of memory, program and libraries included.
@@ -161,6 +135,21 @@ fn a_gigabyte_of_input() {
     assert_eq!(from("sheet \"$1\"", "").out, "refused 3 at 0\n");
 }
 
+/// A line takes many times its length when it is parted into fields.
+#[test]
+fn a_line_as_long_as_a_text() {
+    let folder = Folder::new("long-line");
+    let line = "bytes".to_string() + &" 00".repeat((16 << 20) / 3 - 2);
+    let file = folder.file("long.txt", line.as_bytes());
+    let ran = shell("ulimit -v 65536; exec \"$0\" make \"$1\"", &[&file]);
+    assert_eq!((ran.status, ran.out.as_str()), (1, ""), "{}", ran.err);
+    assert!(
+        ran.err.ends_with("long.txt, line 1: the line has more than 65,536 bytes: write several lines\n"),
+        "{}",
+        ran.err
+    );
+}
+
 /// Runs the command with a terminal as its standard streams, on which these lines are typed.
 fn at_terminal(words: &str, typed: &[u8]) -> (i32, String) {
     let line = format!("{COMMAND} {words}");
@@ -179,9 +168,27 @@ fn a_terminal() {
     assert_eq!(status, 0, "{said}");
     assert!(said.contains("citronreef: reading a text from the terminal"), "{said}");
     assert!(said.contains("+18,105.00  AUD"), "{said}");
-    for command in ["make", "make -o -"] {
+    for (command, name) in [("make", "standard output"), ("make -o -", "standard output"), ("make -o /dev/tty", "/dev/tty")]
+    {
         let (status, said) = at_terminal(command, b"");
         assert_eq!(status, 2);
-        assert!(said.contains("citronreef: standard output is a terminal"), "{said}");
+        assert!(said.contains(&format!("citronreef: {name} is a terminal")), "{said}");
+    }
+}
+
+/// `timeout` ends a command that waits for what nobody types.
+#[test]
+fn a_terminal_by_its_name() {
+    for name in ["/dev/stdin", "/dev/tty", "/dev/fd/0"] {
+        for command in ["sheet", "explain", "show"] {
+            let line = format!("timeout --foreground 5 {COMMAND} {command} {name}");
+            let ran = process::with_input(Command::new("script").args(["-qec", &line, "/dev/null"]), b"");
+            assert_eq!(ran.status, 2, "{}", ran.out);
+            assert!(ran.out.contains(&format!("citronreef: {name} is a terminal: name a FILE")), "{}", ran.out);
+        }
+        let typed = b"mark IR 3 27 95.68 95.71\nposition 1001 IR/3/27 250\n\x04";
+        let (status, said) = at_terminal(&format!("explain --text {name}"), typed);
+        assert_eq!(status, 0, "{said}");
+        assert!(said.contains("citronreef: reading a text from the terminal"), "{said}");
     }
 }

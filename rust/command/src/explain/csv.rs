@@ -1,9 +1,10 @@
 //! The settlement as comma-separated values (RFC 4180, but a line ends with a newline alone): a line for each position, in the order of the
-//! file. No field has a comma, a quotation mark or a newline, so none is put into quotation marks.
+//! file, or one line for a refusal. A field with a comma, a quotation mark or a newline is put into quotation marks.
 
 use super::settlement::{Row, Settlement};
 use crate::money::plain_dollars;
 use crate::quoted::{code_text, contract_text, price_text};
+use citronreef::Refusal;
 
 const HEADING: &str = "account,contract,code,month,year,lots,previous,final,correction,change,amount,currency\n";
 
@@ -26,5 +27,23 @@ fn line(row: &Row) -> String {
         plain_dollars(row.amount),
         row.currency.name().to_string(),
     ];
+    row_of(&fields)
+}
+
+/// The one row of a file that is refused: the check's number, the record's index, and the check in words.
+pub fn refusal_row(refusal: Refusal) -> String {
+    let [number, index] = [refusal.number.to_string(), refusal.index.to_string()];
+    row_of(&["refused".to_string(), number, index, refusal.words().to_string()])
+}
+
+fn row_of(fields: &[String]) -> String {
+    let fields: Vec<String> = fields.iter().map(|field| quoted(field)).collect();
     fields.join(",") + "\n"
+}
+
+fn quoted(field: &str) -> String {
+    match field.contains([',', '"', '\n', '\r']) {
+        true => format!("\"{}\"", field.replace('"', "\"\"")),
+        false => field.to_string(),
+    }
 }

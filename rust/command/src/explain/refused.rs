@@ -23,7 +23,7 @@ pub fn refusal_text(file: &[u8], refusal: Refusal, lines: Option<&Lines>) -> Str
     let refused = Refused { file, day: day_of(file), lines };
     let what = match Section::of_check(refusal.number) {
         Some(section) => refused.records_text(section, refusal),
-        None => header_text(file, refusal.number),
+        None => header_text(file, refusal.number, lines),
     };
     format!("{refusal}\n\n{what}{}", refused.others_text(refusal.number))
 }
@@ -31,7 +31,7 @@ pub fn refusal_text(file: &[u8], refusal: Refusal, lines: Option<&Lines>) -> Str
 impl Refused<'_> {
     /// The record that is turned away; for a clash the earlier one first.
     fn records_text(&self, section: Section, refusal: Refusal) -> String {
-        match self.clashing(refusal) {
+        match self.clashing(refusal.number, refusal.index) {
             Some(earlier) => {
                 let first = self.record_text(section, earlier, refusal.number, Some(refusal.index));
                 first + "\n" + &self.record_text(section, refusal.index, refusal.number, Some(earlier))
@@ -41,18 +41,18 @@ impl Refused<'_> {
     }
 
     /// The first earlier record that the record clashes with, for checks 8 and 11.
-    fn clashing(&self, refusal: Refusal) -> Option<usize> {
+    fn clashing(&self, check: u32, index: usize) -> Option<usize> {
         let (marks, corrections) = (&self.day.marks, &self.day.corrections);
-        match refusal.number {
+        match check {
             8 => {
-                let mark = marks.get(refusal.index)?;
+                let mark = marks.get(index)?;
                 let contract = (mark.code, mark.month, mark.year);
-                marks[..refusal.index].iter().position(|earlier| (earlier.code, earlier.month, earlier.year) == contract)
+                marks[..index].iter().position(|earlier| (earlier.code, earlier.month, earlier.year) == contract)
             }
             11 => {
-                let correction = corrections.get(refusal.index)?;
+                let correction = corrections.get(index)?;
                 let clashes = |earlier: &Correction| earlier.number == correction.number && earlier != correction;
-                corrections[..refusal.index].iter().position(clashes)
+                corrections[..index].iter().position(clashes)
             }
             _ => None,
         }
@@ -84,13 +84,10 @@ impl Refused<'_> {
 
     /// Where a record stands in the text and in the file.
     fn place(&self, section: Section, index: usize, from: &str) -> String {
-        let line = self.lines.and_then(|lines| match section {
-            Section::Marks => lines.marks.get(index),
-            Section::Corrections => lines.corrections.get(index),
-            Section::Positions => lines.positions.get(index),
-        });
+        let byte = offset_of(self.file, section, index);
+        let line = self.lines.and_then(|lines| lines.at(byte));
         let line = line.map_or_else(String::new, |line| format!("line {line} of the text, "));
-        format!("{line}{from}byte {} of the file", offset_of(self.file, section, index))
+        format!("{line}{from}byte {byte} of the file")
     }
 
     /// What a record is called: a mark by its contract, a correction by its number, a position by its account.
@@ -116,8 +113,10 @@ impl Refused<'_> {
 
     fn other_line(&self, check: u32, index: usize) -> String {
         let record = Section::of_check(check).map(|section| {
+            let kind = section.record_name();
             let called = self.called(section, index).map_or_else(String::new, |name| format!(", {name}"));
-            format!(" ({} {index}{called}; {})", section.record_name(), self.place(section, index, ""))
+            let earlier = self.clashing(check, index).map_or_else(String::new, |earlier| format!(", as {kind} {earlier}"));
+            format!(" ({kind} {index}{called}{earlier}; {})", self.place(section, index, ""))
         });
         format!("{check:>4} at {index}: {}{}\n", words(check), record.unwrap_or_default())
     }

@@ -91,7 +91,10 @@ impl Draft {
         if let Some((first, _)) = self.header {
             return Err(line.wrong(format!("line {first} has a header already")));
         }
-        self.header = Some((line.place, header_of(line)?));
+        let header = header_of(line)?;
+        self.header = Some((line.place, header));
+        self.lines.header = Some(line.place);
+        self.lines.headless = matches!(header, Header::Missing);
         Ok(())
     }
 
@@ -99,6 +102,7 @@ impl Draft {
         if line.fields.len() == 1 {
             return Err(line.wrong("bytes are written as two hexadecimal digits for each: bytes 00 ff".to_string()));
         }
+        self.lines.rest.push((self.rest.len(), line.place));
         for number in 2..=line.fields.len() {
             self.rest.extend(line.field(number, hexadecimal_of)?);
         }

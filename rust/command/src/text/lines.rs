@@ -1,6 +1,10 @@
 //! The lines of a text, and the fields of a line.
 
 use super::Wrong;
+use crate::money::whole_text;
+
+/// No line has more bytes. The fields of a line take many times its length, so a longer one is turned away before it is parted.
+const LINE_LIMIT: usize = 65_536;
 
 const BYTE_ORDER_MARK: &[u8] = "\u{feff}".as_bytes();
 
@@ -20,6 +24,9 @@ pub fn lines(text: &[u8]) -> impl Iterator<Item = Result<Line<'_>, Wrong>> {
 fn line_of(place: usize, bytes: &[u8]) -> Result<Line<'_>, Wrong> {
     let bytes = bytes.strip_suffix(b"\r").unwrap_or(bytes);
     let wrong = |says: String| Wrong { line: place, says };
+    if bytes.len() > LINE_LIMIT {
+        return Err(wrong(format!("the line has more than {} bytes: write several lines", whole_text(LINE_LIMIT as i64))));
+    }
     let text =
         std::str::from_utf8(bytes).map_err(|_| wrong("these bytes are not UTF-8: save the text as UTF-8".to_string()))?;
     if let Some(control) = text.chars().find(|&c| c.is_control() && c != '\t') {

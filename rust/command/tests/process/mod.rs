@@ -44,12 +44,27 @@ pub fn with_input(command: &mut Command, input: &[u8]) -> Ran {
     Ran::from(child.wait_with_output().expect("an end"))
 }
 
+/// A failure: status 2, one line that has these words, and nothing on standard output.
+pub fn fails(ran: &Ran, words: &str) {
+    assert_eq!((ran.status, ran.out.as_str()), (2, ""), "{}", ran.err);
+    assert!(ran.err.starts_with("citronreef: ") && ran.err.contains(words), "{}", ran.err);
+    assert_eq!(ran.err.matches('\n').count(), 1, "{}", ran.err);
+}
+
+pub fn text(path: &Path) -> &str {
+    path.to_str().expect("a path in letters")
+}
+
 /// A folder of one test's own, which goes with it.
 pub struct Folder(PathBuf);
 
 impl Folder {
     pub fn new(test: &str) -> Folder {
-        let path = Path::new(env!("CARGO_TARGET_TMPDIR")).join(format!("{test}-{}", std::process::id()));
+        Folder::within(Path::new(env!("CARGO_TARGET_TMPDIR")), test)
+    }
+
+    pub fn within(folder: &Path, test: &str) -> Folder {
+        let path = folder.join(format!("{test}-{}", std::process::id()));
         fs::create_dir_all(&path).expect("a folder");
         Folder(path)
     }

@@ -1,6 +1,6 @@
 //! Texts that say nothing that can be made: the line, the field, and what to write instead.
 
-use super::wrong_with;
+use super::{made, wrong_with};
 
 /// Texts, and what is said of each.
 const MISTAKES: &[(&str, &str)] = &[
@@ -121,13 +121,22 @@ fn bytes_that_are_not_utf_8() {
 
 #[test]
 fn long_words_are_cut() {
-    let said = wrong_with("x".repeat(100_000));
+    let said = wrong_with("x".repeat(65_536));
     assert_eq!(
         said,
         format!("line 1, field 1: {}.. is none of mark, correction, position, header and bytes", "x".repeat(40))
     );
-    assert!(wrong_with(format!("mark IR 3 18 {} 0.0", "9".repeat(100_000))).len() < 200);
-    assert!(wrong_with(format!("position 1 {} 0", "/".repeat(100_000))).len() < 200);
+    assert!(wrong_with(format!("mark IR 3 18 {} 0.0", "9".repeat(65_000))).len() < 200);
+    assert!(wrong_with(format!("position 1 {} 0", "/".repeat(65_000))).len() < 200);
+}
+
+/// The end of the line, which may be CR LF, is not counted.
+#[test]
+fn long_lines_are_not_read() {
+    let comment = "#".repeat(65_536);
+    assert!(made(format!("{comment}\r\n{comment}\n").as_bytes()).is_ok());
+    let said = "line 2: the line has more than 65,536 bytes: write several lines";
+    assert_eq!(wrong_with(format!("{comment}\n#{comment}\n")), said);
 }
 
 #[test]

@@ -70,7 +70,7 @@ fn a_mark_is_shown_by_its_name_where_no_other_has_it() {
 fn the_lines_of_the_records() {
     let text =
         "\u{feff}# head\r\nposition 1 IR/3/27 1\r\n\r\nmark XT 3 27 0.0 0.0\r\ncorrection 1 @0 0.0\r\nmark IR 3 27 0.0 0.0";
-    let lines = Lines { marks: vec![4, 6], corrections: vec![5], positions: vec![2] };
+    let lines = Lines { marks: vec![4, 6], corrections: vec![5], positions: vec![2], ..Lines::default() };
     assert_eq!(made(text.as_bytes()).map(|made| made.lines), Ok(lines));
 }
 
