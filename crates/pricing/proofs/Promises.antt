@@ -176,7 +176,7 @@ pub factor-small : {p : ℕ} → p ≤ priceLimit → (k : ℕ) → factor scale
 unfolding scale
 factor-small h k = factor-cap h k
 
--- No step of a value of the table leaves 64 bits.
+-- These products and sums on the way to a value of the table are within 64 bits. That no step of the code leaves them is proved with each function.
 pub steps-fit : (code : Code) (p : ℕ) {q : Product} → find code ≡ At q → p ≤ priceLimit → StepsFit (q .terms) p
 steps-fit code p {q} f h = steps-fit-by h (q .terms) (sound code (sym f) refl .terms)
 

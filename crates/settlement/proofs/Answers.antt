@@ -1,4 +1,4 @@
--- A file for each check, and files just inside its bounds, answered by the definitions. In each the second record of a section is the one that
+-- Files for checks 2 to 13, and files just inside their bounds, answered by the definitions. In each the second record of a section is the one that
 -- is looked at.
 use mathlib.Core.Path.{_≡_, refl}
 use mathlib.Core.List.{List, [], _∷_, _++_, map}
