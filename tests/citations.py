@@ -17,7 +17,7 @@ from require import require
 ROOT = Path(__file__).resolve().parent.parent
 CRATES = {path.name: path for path in sorted((ROOT / "crates").iterdir()) if path.is_dir()}
 STRICT = "docs/STATEMENTS.md"
-PAGES = [STRICT, "docs/ASSUMPTIONS.md", "docs/CHECKS.md", "docs/DECISIONS.md", "README.md"]
+PAGES = [STRICT, "docs/ASSUMPTIONS.md", "docs/CHECKS.md", "docs/DAYFILE.md", "docs/DECISIONS.md", "docs/READING.md", "README.md"]
 LAWS = {"Promises": "crates/pricing/proofs/Promises.antt", "Demands": "crates/settlement/proofs/Demands.antt"}
 ELSEWHERE = ("target/", "lib/", "bin/", "share/", "/", "-")  # paths of what is built or installed, and of the machine; options
 COMMANDS = {"explain", "make", "sheet", "show"}  # of citronreef
