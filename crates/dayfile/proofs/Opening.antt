@@ -1,4 +1,4 @@
--- A file that passes checks 1 to 3.
+-- A file that passes checks 1 to 3, and what the tests of the header say of one that does not.
 use mathlib.Core.Path.{_≡_, refl, sym, _∙_}
 use mathlib.Core.Bool.{Bool, true, false, cond, not, _&&_}
 use mathlib.Core.List.{List}

@@ -1,4 +1,4 @@
--- The laws of searches and counts by index: each loop cites these, whatever its test.
+-- The laws of searches by index, whatever the test: the first index that passes it, and whether one does.
 use mathlib.Core.Path.{_≡_, refl, sym, _∙_}
 use mathlib.Core.Bool.{Bool, true, false, cond, _||_}
 use mathlib.Core.Logic.{⊎-elim}

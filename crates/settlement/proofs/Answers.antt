@@ -1,5 +1,5 @@
--- Files for checks 2 to 13, and files just inside their bounds, answered by the definitions. In each the second record of a section is the one that
--- is looked at.
+-- Files for checks 2 to 13, and files just inside their bounds, answered by the definitions; from check 4 on the second record of a section
+-- is the one that is looked at. Then what each check finds by itself.
 use mathlib.Core.Path.{_≡_, refl}
 use mathlib.Core.List.{List, [], _∷_, _++_, map}
 use Prim.Native.Nat.{ℕ}

@@ -1,4 +1,3 @@
--- `citronreef_settle` meets its contract, by those of `settle` and of `day_numbers`.
 use mathlib.Core.Path.{ap, _∙_}
 use borrow.Author.Needs.{needs}
 use Rattle.citronreef.specs.Numbers.{outcomeOf}

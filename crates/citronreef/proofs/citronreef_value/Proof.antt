@@ -1,4 +1,3 @@
--- `citronreef_value` meets its contract, by those of the call and of `contract_numbers`.
 use mathlib.Core.Path.{ap, _∙_}
 use borrow.Author.Needs.{needs}
 use Rattle.citronreef.specs.Numbers.{quoteOf}

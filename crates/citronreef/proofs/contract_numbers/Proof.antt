@@ -1,4 +1,4 @@
--- `contract_numbers` meets its contract: by the two kinds of answer.
+-- By the kind of answer: a number that is given has a refused of 0 beside it, and a refusal a number of 0.
 use mathlib.Core.Path.{ap, sym}
 use borrow.Author.Needs.{needs}
 use Rattle.pricing.specs.Calls.{said}

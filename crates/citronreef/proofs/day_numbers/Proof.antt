@@ -1,4 +1,4 @@
--- `day_numbers` meets its contract: by the two kinds of answer.
+-- By the kind of answer: the totals of a settlement are the cents of their currencies, and beside a refusal's two numbers all others are 0.
 use mathlib.Core.Path.{ap, sym, _∙_}
 use borrow.Author.Needs.{needs}
 use mir.Syntax.{w64}

@@ -1,3 +1,4 @@
+-- By what is found: 1 and the index of the record, or 0 twice.
 use mathlib.Core.Path.{ap, sym}
 use borrow.Author.Needs.{needs}
 use Rattle.citronreef.specs.Numbers.{findingOf}

@@ -1,3 +1,4 @@
+-- By the kind of answer, and for a mark that is priced by whether a correction decides: 1 and its number, or 0 twice.
 use mathlib.Core.Path.{ap, sym, _∙_}
 use Rattle.settlement.specs.OneMark.{said, latestBy}
 use Rattle.citronreef.specs.Numbers.{corrects, numberOf, markOutcomeOf}

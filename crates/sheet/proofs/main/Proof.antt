@@ -1,3 +1,4 @@
+-- The count of bytes that were read is within the buffer, so that the file can be taken from its start.
 use borrow.Author.Needs.{needs}
 use Rattle.sheet.proofs.main.Statement.{statement}
 use Rattle.sheet.proofs.main.Tie as tie

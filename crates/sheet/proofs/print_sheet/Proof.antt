@@ -1,3 +1,4 @@
+-- The length of the sheet is within the buffer, so that it can be taken from its start.
 use lib.Seq.{length-take-le}
 use mathlib.Core.Path.{sym}
 use native.Mathlib.Omega.{arith}

@@ -1,4 +1,4 @@
--- `cases::amounts::digest` is safe and ends: the index rises to n.
+-- `cases::amounts::digest` is safe and ends: the index is below the slice's length where it is read, and rises by 1 while it is below n.
 use Prim.Native.Nat.{_-_}
 use borrow.Author.Needs.{needs}
 use Rattle.cases.proofs.amounts.digest.Statement.{statement}

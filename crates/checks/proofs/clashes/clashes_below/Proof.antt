@@ -1,3 +1,4 @@
+-- By whether k is 0, which names no correction; any other k names the one with the index k − 1.
 use Prim.Native.Nat.{_-_}
 use native.Mathlib.Omega.{arith}
 use Rattle.dayfile.specs.Records.{correctionsIn}

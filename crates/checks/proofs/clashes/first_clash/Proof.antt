@@ -1,3 +1,5 @@
+-- At step i none of the first i corrections clashes with an earlier one.
+-- Then correction i clashes with an earlier one exactly where it clashes with the last that has its number.
 use Prim.Native.Nat.{_≤_, _<_, _-_}
 use mathlib.Core.Path.{_≡_, sym}
 use native.Mathlib.Omega.{arith}

@@ -1,3 +1,4 @@
+-- At step i the count is that of the first i corrections that bear an earlier one's number: those for which the array names a last one.
 use Prim.Native.Nat.{_≤_, _<_, _-_}
 use lib.ListN.{length}
 use mathlib.Core.Path.{_≡_, refl}

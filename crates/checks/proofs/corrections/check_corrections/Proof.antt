@@ -1,3 +1,5 @@
+-- By the numbers of marks and corrections: above a limit check 2 refuses before all others, with a resent count of 0;
+-- within both the checks over corrections decide, by the ticks that the pass over the marks writes.
 use mathlib.Core.Path.{_∙_}
 use lib.Dec.{ltb}
 use Rattle.numbers.proofs.Checks.{decision-all}

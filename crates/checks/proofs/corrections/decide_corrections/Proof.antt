@@ -1,3 +1,5 @@
+-- Where no correction has a fault and none clashes no check finds anything; else the first corrections found decide in the order.
+-- Corrections have one key exactly where they bear one number, so that the array has the last earlier one with each correction's number.
 use lib.ListN.{replicate}
 use mathlib.Core.Path.{refl, sym, _∙_}
 use Rattle.dayfile.specs.Records.{marksIn, correctionsIn}

@@ -1,3 +1,4 @@
+-- By whether there is a mark with its index: without one there is no tick for the price to be off, and with one the array holds its tick.
 use Prim.Native.Nat.{_<_}
 use native.Mathlib.Omega.{arith}
 use lib.ListN.{length}

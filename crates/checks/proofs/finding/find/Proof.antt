@@ -1,3 +1,5 @@
+-- By whether checks 1 and 2 give the counts: without them the header alone is looked at, with them the header and then the records.
+-- What is decided where check k alone is looked at is what check k finds.
 use mathlib.Core.Path.{sym, _∙_}
 use Rattle.checks.proofs.Found.{found-in-header, counted-small, found-in-file}
 use borrow.Author.Needs.{needs}

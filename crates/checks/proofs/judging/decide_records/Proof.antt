@@ -1,3 +1,4 @@
+-- The first section that decides does so for the checks over all records; the marks leave the ticks that the corrections are looked at by.
 use Rattle.dayfile.specs.Records.{listsOf}
 use Rattle.checks.proofs.Judgements.{records-decided}
 use borrow.Author.Needs.{needs}

@@ -1,3 +1,4 @@
+-- By whether checks 1 to 3 open the file: their refusal stands before all others, and where they find nothing the records decide.
 use mathlib.Core.Path.{sym, _∙_}
 use Rattle.checks.proofs.Judgements.{opened-small, judged-refused, judged-opened}
 use borrow.Author.Needs.{needs}

@@ -1,3 +1,4 @@
+-- Where all checks are looked at they decide as their order does, and the judgement goes by that decision.
 use mathlib.Core.Path.{refl, sym, ap, _∙_}
 use Rattle.numbers.proofs.Checks.{decision-all}
 use Rattle.dayfile.specs.Records.{listsOf}

@@ -1,3 +1,4 @@
+-- By the number of marks: above the limit check 2 refuses before all others, and within it the checks over marks decide.
 use mathlib.Core.Path.{_∙_}
 use lib.ListN.{length}
 use Rattle.numbers.proofs.Checks.{decision-all}

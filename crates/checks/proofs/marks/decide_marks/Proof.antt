@@ -1,3 +1,5 @@
+-- Where no mark has a fault and none repeats an earlier one no check finds anything; else the first marks found decide in the order.
+-- Marks have one key exactly where they are of one contract.
 use mathlib.Core.Path.{sym, _∙_}
 use native.Mathlib.Omega.{arith}
 use Rattle.numbers.specs.Bytes.{Bytes}

@@ -1,3 +1,4 @@
+-- By what the lookup of the mark's code found; without a product the tick is 1, and no price is off it.
 use mathlib.Core.Path.{_∙_}
 use Rattle.products.proofs.ByCode.{by-lookup}
 use Rattle.checks.proofs.Faults.{faultsIn, faults-found}

@@ -1,3 +1,4 @@
+-- At step i each finding is that of the first i marks.
 use Prim.Native.Nat.{_≤_, _-_}
 use mathlib.Core.Path.{_≡_, ap, _∙_}
 use native.Mathlib.Omega.{arith}

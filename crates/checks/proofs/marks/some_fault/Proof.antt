@@ -1,3 +1,4 @@
+-- At step i the answer so far is whether one of the first i marks has a fault, and the first i places of the array hold their ticks.
 use Prim.Native.Nat.{_≤_, _<_, _-_}
 use mathlib.Core.Path.{_≡_, ap, _∙_}
 use native.Mathlib.Omega.{arith}

@@ -1,3 +1,4 @@
+-- By the numbers of marks and positions: above a limit check 2 refuses before all others, and within both the checks over positions decide.
 use mathlib.Core.Path.{_∙_}
 use lib.Dec.{ltb}
 use Rattle.numbers.proofs.Checks.{decision-all}

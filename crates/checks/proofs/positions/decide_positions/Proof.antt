@@ -1,3 +1,4 @@
+-- Where no position has a fault no check finds anything; else the first positions found decide in the order.
 use mathlib.Core.Path.{sym, _∙_}
 use Rattle.dayfile.specs.Records.{marksIn, positionsIn}
 use Rattle.checks.proofs.Deciding.{positions-decided, positions-clear}

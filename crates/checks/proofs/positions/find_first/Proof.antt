@@ -1,3 +1,4 @@
+-- At step i each finding is that of the first i positions, whose faults are told by the numbers that their bytes have.
 use Prim.Native.Nat.{_≤_, _-_}
 use mathlib.Core.Path.{_≡_, ap, _∙_}
 use native.Mathlib.Omega.{arith}

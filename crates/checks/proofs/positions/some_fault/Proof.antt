@@ -1,3 +1,4 @@
+-- At step i the answer so far is whether one of the first i positions has a fault, told by the numbers that its bytes have.
 use Prim.Native.Nat.{_≤_, _-_}
 use mathlib.Core.Path.{_≡_, ap, _∙_}
 use native.Mathlib.Omega.{arith}

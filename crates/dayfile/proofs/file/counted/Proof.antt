@@ -1,3 +1,4 @@
+-- By the length: a file shorter than a header is refused with 1; of another, the limits decide between its counts and a refusal with 2.
 use mathlib.Core.Path.{sym, _∙_}
 use Rattle.dayfile.proofs.Header.{counted-short, counted-whole}
 use borrow.Author.Needs.{needs}

@@ -1,3 +1,5 @@
+-- By the length: of a file shorter than a header tests 2 and 3 say nothing, so that check 1 decides alone;
+-- of another the three tests, one after the other, decide what the checks decide in their order.
 use Rattle.dayfile.proofs.Header.{decided-short, decided-whole}
 use borrow.Author.Needs.{needs}
 use Rattle.dayfile.proofs.file.decide_header.Statement.{statement}

@@ -1,3 +1,4 @@
+-- By what checks 1 and 2 say: their refusal is that of all three, and where they give counts the header is whole and the layout decides.
 use mathlib.Core.Path.{sym, _∙_}
 use Rattle.dayfile.proofs.Opening.{counted-refused}
 use Rattle.dayfile.proofs.Header.{whole-header, by-layout}

@@ -1,3 +1,5 @@
+-- By where the offsets lie: a part that goes past the file's end has what there is;
+-- one that starts past that end, or that ends before its own start, has nothing.
 use Prim.Native.Nat.{_-_}
 use native.Mathlib.Omega.{arith}
 use lib.ListN.{length}

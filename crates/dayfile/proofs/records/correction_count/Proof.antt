@@ -1,3 +1,4 @@
+-- A section has one correction for each whole 12 of its bytes.
 use mathlib.Core.Path.{sym}
 use Rattle.dayfile.specs.Records.{correctionSize, correctionOf}
 use Rattle.numbers.proofs.Sections.{size-is}

@@ -1,3 +1,4 @@
+-- A section has one mark for each whole 12 of its bytes.
 use mathlib.Core.Path.{sym}
 use Rattle.dayfile.specs.Records.{markSize, markOf}
 use Rattle.numbers.proofs.Sections.{size-is}

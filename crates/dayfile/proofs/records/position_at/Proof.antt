@@ -1,3 +1,4 @@
+-- Field by field a position is the raw one with its lots read in two's complement, within the section and past its end.
 use mathlib.Core.Path.{ap, _∙_}
 use Rattle.numbers.specs.Bytes.{signed}
 use Rattle.numbers.proofs.Signed.{back}

@@ -1,3 +1,4 @@
+-- A u32 moved up by 2^31 modulo 2^32, less 2^31, is the number read in two's complement; by its size the difference fits.
 use mathlib.Core.Path.{_∙_}
 use native.Mathlib.Omega.{arith}
 use lib.IntN.{pos}

@@ -1,3 +1,4 @@
+-- A record with an index below their number ends within the list, and its key is that of the bytes cut out at its place.
 use mathlib.Core.Path.{sym, _∙_}
 use native.Mathlib.Nat.{add-sub-cancel-left}
 use native.Mathlib.Omega.{arith}

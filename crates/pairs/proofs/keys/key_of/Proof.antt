@@ -1,3 +1,4 @@
+-- By the key's width, which makes the record long enough for the one or two numbers that are read.
 use Prim.Native.Nat.{_≤_}
 use native.Mathlib.Omega.{arith}
 use lib.ListN.{length}

@@ -1,3 +1,4 @@
+-- By whether a record is as long as its key; where it is, its size is not 0, since every key has bytes, and the records can be counted.
 use native.Mathlib.Omega.{arith}
 use Rattle.pairs.proofs.Records.{looked-none, looked-some}
 use Rattle.pairs.proofs.Rooms.{width-pos}

@@ -1,3 +1,4 @@
+-- The records that are looked at and have a place have keys; by their number one of three trees is taken, and each answers the same.
 use mathlib.Core.Path.{_≡_}
 use lib.ListN.{length}
 use Rattle.numbers.specs.Folds.{front}

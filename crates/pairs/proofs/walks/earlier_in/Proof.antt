@@ -1,3 +1,5 @@
+-- At step i the tree and the last record of each key are those of the first i records, and the first i answers stand in their places.
+-- What stands beside the record at the end of i's walk, 0 where that place is empty, is the answer for i.
 use Prim.Native.Nat.{_≤_, _-_}
 use mathlib.Core.Path.{_≡_, refl}
 use native.Mathlib.Omega.{arith}

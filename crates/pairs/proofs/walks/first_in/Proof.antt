@@ -1,3 +1,5 @@
+-- At step i the tree holds the first i records, no two of which have one key.
+-- The walk of record i ends at a record exactly where an earlier one has its key.
 use Prim.Native.Nat.{ℕ, _≤_, _-_}
 use mathlib.Core.Bool.{not}
 use mathlib.Core.Path.{_≡_, refl, sym, ap}

@@ -1,3 +1,4 @@
+-- 4,096 roots and two places below each of at most 4,096 records fit in 12,288 places, which start empty.
 use native.Mathlib.Omega.{arith}
 use Rattle.pairs.proofs.Rooms.{room-in}
 use Rattle.pairs.proofs.Trees.{zeros}

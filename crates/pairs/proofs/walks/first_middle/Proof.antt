@@ -1,3 +1,4 @@
+-- 512 roots and two places below each of at most 512 records fit in 1,536 places, which start empty.
 use native.Mathlib.Omega.{arith}
 use Rattle.pairs.proofs.Rooms.{room-in}
 use Rattle.pairs.proofs.Trees.{zeros}

@@ -1,3 +1,4 @@
+-- The records that are looked at have keys; by their number one of three trees is taken, and each answers the same.
 use native.Mathlib.Omega.{arith}
 use Rattle.numbers.specs.Folds.{first}
 use Rattle.numbers.proofs.Chain.{by-one}

@@ -1,3 +1,4 @@
+-- 32 roots and two places below each of at most 32 records fit in 96 places, which start empty.
 use native.Mathlib.Omega.{arith}
 use Rattle.pairs.proofs.Rooms.{room-in}
 use Rattle.pairs.proofs.Trees.{zeros}

@@ -1,3 +1,4 @@
+-- By whether the place is empty: one that is not holds one more than an index.
 use native.Mathlib.Omega.{arith}
 use Rattle.pairs.proofs.Trees.{node-held}
 use borrow.Author.Needs.{needs}

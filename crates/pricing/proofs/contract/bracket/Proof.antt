@@ -1,4 +1,4 @@
--- `bracket` meets its contract.
+-- By the lookup: a product that is found is a line of the table, so its terms are modest and its tick is positive, as `bracket_by` asks.
 use Rattle.pricing.specs.Calls.{bracketOf}
 use Rattle.pricing.proofs.Lines.{sound}
 use borrow.Author.Needs.{needs}

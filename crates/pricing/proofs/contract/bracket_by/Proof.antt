@@ -1,4 +1,4 @@
--- `bracket_by` meets its contract.
+-- By the terms, and a bond's by checks 6 and 7: a price that passes them is within the limit, as `bracket_at` asks.
 use Rattle.pricing.proofs.Answers.{passed}
 use borrow.Author.Needs.{needs}
 use Rattle.pricing.proofs.contract.bracket_by.Statement.{statement}

@@ -1,4 +1,4 @@
--- `check` meets its contract.
+-- By the lookup for check 4, then by checks 6 and 7 at the product's tick.
 use Rattle.pricing.specs.Steps.{checkOf}
 use borrow.Author.Needs.{needs}
 use Rattle.pricing.proofs.contract.check.Statement.{statement}

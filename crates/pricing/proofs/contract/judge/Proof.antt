@@ -1,4 +1,4 @@
--- `judge` meets its contract.
+-- By the two tests in the order of the checks: above the limit, then off the tick.
 use Prim.Native.Nat.{_%_}
 use mathlib.Core.Path.{sym, _∙_}
 use lib.Dec.{eqb}

@@ -1,4 +1,5 @@
--- `tick_value` meets its contract.
+-- The next price is within the limit and has no lower value (`value-by-rises`), so nothing is cut off by the subtraction; and the terms and
+-- the tick that the checks leave are those the answer goes by (`by-checked`).
 use mathlib.Core.Path.{_≡_, _∙_}
 use Prim.Native.Nat.{ℕ, _+_, _-_, _≤_, _<_}
 use native.Mathlib.Omega.{arith}

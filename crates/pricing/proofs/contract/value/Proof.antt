@@ -1,4 +1,4 @@
--- `value` meets its contract.
+-- By the lookup: a product that is found is a line of the table, so its terms are modest, as `value_by` asks.
 use Rattle.pricing.specs.Calls.{valueOf}
 use Rattle.pricing.proofs.Lines.{sound}
 use borrow.Author.Needs.{needs}

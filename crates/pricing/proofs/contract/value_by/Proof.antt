@@ -1,4 +1,4 @@
--- `value_by` meets its contract.
+-- By the terms, then by checks 6 and 7: a price that passes them is within the limit, as each kind's formula asks.
 use mathlib.Core.Path.{_≡_}
 use Prim.Native.Nat.{ℕ}
 use Rattle.pricing.specs.Calls.{given, after}

@@ -1,4 +1,4 @@
--- `bracket_at` meets its contract.
+-- At step k the ladder stands at rung k, which is low enough to climb on; the last rung gives the bracket (`rung-bracket`).
 use Prim.Native.Nat.{_≤_, _-_}
 use mathlib.Core.Path.{_≡_, ap, _∙_}
 use native.Mathlib.Nat.{le-trans, le-antisymm}

@@ -1,4 +1,4 @@
--- `bracket_of` meets its contract.
+-- A coupon of at most 3 and a low rung keep each product and the bracket within 64 bits.
 use native.Mathlib.Nat.{mul-le-mul}
 use native.Mathlib.Omega.{arith}
 use borrow.Author.Needs.{needs}

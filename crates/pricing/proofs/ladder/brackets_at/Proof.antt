@@ -1,4 +1,4 @@
--- `brackets_at` meets its contract.
+-- At step k both ladders stand at rung k of their prices; the last rungs give the brackets (`rung-bracket`).
 use Prim.Native.Nat.{_≤_, _-_}
 use mathlib.Core.Path.{_≡_, ap, _∙_}
 use native.Mathlib.Nat.{le-trans, le-antisymm}

@@ -1,4 +1,4 @@
--- `climb` meets its contract.
+-- Both factors are at most one whole, so their product fits 64 bits, and the next factor is at most one whole too.
 use native.Mathlib.Omega.{arith}
 use Rattle.pricing.specs.Rungs.{nextOf}
 use Rattle.pricing.proofs.Climbing.{product-low, next-v-low}

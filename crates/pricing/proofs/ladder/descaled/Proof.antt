@@ -1,4 +1,3 @@
--- `descaled` meets its contract.
 use borrow.Author.Needs.{needs}
 use Rattle.pricing.specs.Value.{scale}
 use Rattle.pricing.proofs.ladder.descaled.Statement.{statement}

@@ -1,4 +1,4 @@
--- `first_factor` meets its contract.
+-- A price within the limit is not above that of yield 0, so the yield is taken without going below 0.
 use borrow.Author.Needs.{needs}
 use native.Mathlib.Omega.{arith}
 use Rattle.products.specs.Products.{priceLimit}

@@ -1,4 +1,4 @@
--- `start` meets its contract.
+-- V1 is the first factor, and the annuity of one half year is V1 too (`first-rung`).
 use Rattle.pricing.proofs.Climbing.{first-rung}
 use borrow.Author.Needs.{needs}
 use Rattle.pricing.proofs.ladder.start.Statement.{statement}

@@ -1,4 +1,4 @@
--- `bonds_at` meets its contract.
+-- At lane i the first i places hold the values by their ladders' last rungs, and those are the bond's values at their prices (`bonds-are`).
 use Prim.Native.Nat.{_-_}
 use mathlib.Core.Path.{refl}
 use native.Mathlib.Omega.{arith}

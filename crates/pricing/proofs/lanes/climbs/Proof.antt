@@ -1,4 +1,4 @@
--- `climbs` meets its contract.
+-- At lane i the first i places hold the next rungs of their ladders.
 use Prim.Native.Nat.{_-_}
 use mathlib.Core.Path.{refl}
 use lib.ListN.{getD}

@@ -1,4 +1,4 @@
--- `ladders` meets its contract.
+-- At step k every lane stands at rung k of its price, since all start at their first rungs; climbing all takes each to k + 1 (`all-next`).
 use Prim.Native.Nat.{_≤_, _-_}
 use Prim.Native.Nat.{ℕ}
 use mathlib.Core.List.{List}

@@ -1,4 +1,4 @@
--- `starts` meets its contract.
+-- At lane i the first i places hold the first rungs at their prices.
 use Prim.Native.Nat.{_-_}
 use mathlib.Core.Path.{refl}
 use lib.ListN.{getD}

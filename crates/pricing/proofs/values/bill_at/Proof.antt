@@ -1,4 +1,4 @@
--- `bill_at` meets its contract.
+-- At most 100 days and a yield of at most 100 per cent keep the divisor, and the face the dividend, within what `rounded` takes.
 use Prim.Native.Nat.{_*_, _-_, _≤_}
 use native.Mathlib.Nat.{mul-le-mul}
 use native.Mathlib.Omega.{arith}

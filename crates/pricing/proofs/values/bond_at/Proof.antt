@@ -1,4 +1,4 @@
--- `bond_at` meets its contract.
+-- The bracket of modest terms times their face fits (`face-low`), and that product over 10^8, rounded, is the value.
 use native.Mathlib.Omega.{arith}
 use borrow.Author.Needs.{needs}
 use Rattle.pricing.specs.Value.{valueBy}

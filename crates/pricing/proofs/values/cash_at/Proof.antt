@@ -1,4 +1,4 @@
--- `cash_at` meets its contract.
+-- At most 10,000 cents times a price within the limit are within what `rounded` takes.
 use Prim.Native.Nat.{_*_, _≤_}
 use native.Mathlib.Nat.{mul-le-mul}
 use native.Mathlib.Omega.{arith}

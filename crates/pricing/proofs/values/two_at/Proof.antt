@@ -1,4 +1,4 @@
--- `two_at` meets its contract.
+-- By the terms: each kind's formula at both prices.
 use borrow.Author.Needs.{needs}
 use Rattle.pricing.proofs.values.two_at.Statement.{statement}
 use Rattle.pricing.proofs.values.two_at.Tie as tie

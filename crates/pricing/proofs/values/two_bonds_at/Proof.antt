@@ -1,4 +1,4 @@
--- `two_bonds_at` meets its contract.
+-- Each bracket times the face fits (`face-low`), and that product over 10^8, rounded, is the value at its price.
 use native.Mathlib.Omega.{arith}
 use borrow.Author.Needs.{needs}
 use Rattle.pricing.specs.Value.{valueBy}

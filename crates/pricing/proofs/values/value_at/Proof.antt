@@ -1,4 +1,4 @@
--- `value_at` meets its contract.
+-- By the terms: each kind has its own formula.
 use borrow.Author.Needs.{needs}
 use Rattle.pricing.proofs.values.value_at.Statement.{statement}
 use Rattle.pricing.proofs.values.value_at.Tie as tie

@@ -1,4 +1,4 @@
--- `bond_worths` meets its contract.
+-- By whether some price fails: where none does all are within the limit (`all-within`), and no value is a 0 for a refusal (`all-worth`).
 use Rattle.products.specs.declared.table.Terms.the-variants.{Bond}
 use Rattle.pricing.proofs.SideBySide.{all-within, all-worth}
 use borrow.Author.Needs.{needs}

@@ -1,4 +1,4 @@
--- `each_worth` meets its contract.
+-- At lane i the first i places hold the values at their prices, 0 where a price fails.
 use Prim.Native.Nat.{_-_}
 use mathlib.Core.Path.{refl}
 use lib.ListN.{getD}

@@ -1,4 +1,3 @@
--- `fails` meets its contract.
 use borrow.Author.Needs.{needs}
 use Rattle.pricing.proofs.valuing.fails.Statement.{statement}
 use Rattle.pricing.proofs.valuing.fails.Tie as tie

@@ -1,4 +1,4 @@
--- `some_fails` meets its contract.
+-- At lane i `bad` says whether one of the first i prices fails.
 use Prim.Native.Nat.{_≤_, _-_}
 use mathlib.Core.Path.{_≡_}
 use native.Mathlib.Omega.{arith}

@@ -1,4 +1,5 @@
--- `worth` meets its contract.
+-- By the lookup: a product's terms are modest, and its value after checks 6 and 7, or 0, is the number of the call's answer
+-- (`worth-by-judged`).
 use mathlib.Core.Path.{_∙_}
 use Rattle.pricing.specs.Calls.{judged, valueOf}
 use Rattle.pricing.proofs.Lines.{sound}

@@ -1,4 +1,4 @@
--- `worth_by` meets its contract.
+-- By checks 6 and 7: a price that passes them is within the limit, as `value_at` asks.
 use Rattle.pricing.proofs.Answers.{passed}
 use borrow.Author.Needs.{needs}
 use Rattle.pricing.proofs.valuing.worth_by.Statement.{statement}

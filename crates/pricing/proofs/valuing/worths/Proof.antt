@@ -1,4 +1,4 @@
--- `worths` meets its contract.
+-- By the lookup: the values by a product's terms, or eight zeros, are those of the calls at the eight prices (`worths-are`, `no-worths`).
 use Rattle.pricing.proofs.Lines.{sound}
 use Rattle.pricing.proofs.SideBySide.{worths-are, no-worths}
 use borrow.Author.Needs.{needs}

@@ -1,4 +1,4 @@
--- `worths_by` meets its contract.
+-- By the terms: a bond's values as `bond_worths` works them, the others' one after the other.
 use borrow.Author.Needs.{needs}
 use Rattle.pricing.proofs.valuing.worths_by.Statement.{statement}
 use Rattle.pricing.proofs.valuing.worths_by.Tie as tie

@@ -1,3 +1,4 @@
+-- By what the lookup found, of which the definition takes the currency.
 use mathlib.Core.Path.{refl}
 use Rattle.products.proofs.ByCode.{by-lookup}
 use Rattle.products.specs.Products.{currencyOf, currencyIn}

@@ -1,4 +1,4 @@
--- `has_month` meets its contract.
+-- By whether the month is below 16: there the shift divides by 2 ^ month, as the definition does, and from 16 on both say no.
 use borrow.Author.Needs.{needs}
 use borrow.Author.Tests.{lt-ltb, le-ltb}
 use Rattle.products.specs.Products.{hasMonth}

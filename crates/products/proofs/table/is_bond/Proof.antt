@@ -1,3 +1,4 @@
+-- By what the lookup found, of whose terms the definition asks whether they are a bond's.
 use mathlib.Core.Path.{refl}
 use Rattle.products.proofs.ByCode.{by-lookup}
 use Rattle.products.specs.Products.{isBond, bondIn}

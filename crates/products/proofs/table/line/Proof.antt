@@ -1,4 +1,4 @@
--- `line` meets its contract.
+-- The code's table is the specified one, line for line.
 use mathlib.Core.Path.{refl}
 use borrow.Author.Needs.{needs}
 use Rattle.products.specs.Products.{products, noProduct}

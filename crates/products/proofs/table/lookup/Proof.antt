@@ -1,4 +1,4 @@
--- `lookup` meets its contract. The loop's invariant: a search from line i on finds what a search of the whole table finds.
+-- At step i a search from line i on finds what a search of the whole table finds.
 use Prim.Native.Nat.{ℕ, _≤_, _<_, _-_}
 use mathlib.Core.Path.{_≡_, refl, sym, _∙_}
 use borrow.Author.Needs.{needs}

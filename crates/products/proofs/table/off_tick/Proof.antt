@@ -1,4 +1,4 @@
--- `off_tick` meets its contract.
+-- By the tick: the constants 50 and 100 stand for a tick that is the same, and the remainder by 0 is the price itself.
 use mathlib.Core.Path.{sym}
 use native.Mathlib.Nat.{mod-zero}
 use borrow.Author.Needs.{needs}

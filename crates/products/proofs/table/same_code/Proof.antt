@@ -1,4 +1,4 @@
--- `same_code` meets its contract: two letters each are one number, and no two pairs of letters are the same one.
+-- Two letters make one number, and different pairs of letters make different ones.
 use Prim.Native.Nat.{_<_}
 use mathlib.Core.Path.{_≡_, refl, sym, _∙_}
 use mathlib.Core.Bool.{Bool, true, false, _&&_}

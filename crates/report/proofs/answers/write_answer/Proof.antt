@@ -1,3 +1,4 @@
+-- By the kind of answer: the totals with the resent count, or the line of the refusal.
 use Rattle.report.specs.Sheet.{answerText}
 use borrow.Author.Needs.{needs}
 use Rattle.report.proofs.answers.write_answer.Statement.{statement}

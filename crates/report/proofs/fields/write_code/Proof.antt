@@ -1,3 +1,4 @@
+-- By the room: with fewer than three bytes nothing is written, else three stores from the start on are the text.
 use lib.ListN.{length-set}
 use native.Mathlib.Omega.{arith}
 use mathlib.Core.List.{[], _∷_}

@@ -1,3 +1,4 @@
+-- By the currency: what is written are its three letters and the newline.
 use Rattle.report.specs.Lines.{lettersOf}
 use Rattle.text.proofs.Writing.{fitted-writes}
 use borrow.Author.Needs.{needs}

@@ -1,3 +1,4 @@
+-- The words of the position's mark lie within the list, so that their place, 16 times the mark's index, fits a usize.
 use native.Mathlib.Omega.{arith}
 use mir.Facts.{toZ-ofZ}
 use mir.Syntax.{w64}

@@ -1,3 +1,5 @@
+-- At position i the lines of the first i positions are written, where there is room for them. With the words at a mark's place a line is
+-- the mark's (`line-here`).
 use Prim.Native.Nat.{_≤_, _-_}
 use native.Mathlib.Omega.{arith}
 use mathlib.Core.Path.{_≡_}

@@ -1,3 +1,5 @@
+-- By whether the file opens: one that does not has no lines, and of one that does the lines with the slice's amounts are those of its plan
+-- (`settled-lines`).
 use mathlib.Core.Path.{sym, _∙_}
 use Rattle.dayfile.proofs.Opening.{laid-out}
 use Rattle.dayfile.proofs.Parts.{small}

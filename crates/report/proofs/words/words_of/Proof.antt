@@ -1,3 +1,5 @@
+-- The fields in the first 11 of 16 zeros, the currency and the newline in the next four, and the fields' length in the last are the mark's
+-- words (`words-made`).
 use native.Mathlib.Omega.{arith}
 use Rattle.report.proofs.MarkWords.{words-made}
 use borrow.Author.Needs.{needs}

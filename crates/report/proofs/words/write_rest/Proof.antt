@@ -1,3 +1,5 @@
+-- The text has at least twelve bytes, and with room for fewer none is written. Else the fields stand in the twelve that are copied, and the
+-- amount with its currency covers the others.
 use native.Mathlib.Nat.{add-sub-cancel-left}
 use native.Mathlib.Omega.{arith}
 use mir.Facts.{toZ-ofZ}

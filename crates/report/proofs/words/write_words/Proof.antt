@@ -1,3 +1,4 @@
+-- At mark i the words of the first i marks are written, one behind the other, where there is room for them.
 use Prim.Native.Nat.{_≤_, _-_}
 use native.Mathlib.Omega.{arith}
 use mathlib.Core.Path.{_≡_}

@@ -1,3 +1,4 @@
+-- By the flag: the sum of the amount's currency grows by it, and the other one stays, which is that sum plus 0.
 use mathlib.Core.Path.{refl, _∙_}
 use Rattle.numbers.proofs.Signed.{back}
 use Rattle.settlement.proofs.Sizes.{addable-as}

@@ -1,3 +1,4 @@
+-- At mark m the first m places say whether their marks are in New Zealand dollars.
 use Prim.Native.Nat.{_≤_, _-_}
 use mathlib.Core.Path.{_≡_, refl}
 use mathlib.Core.Bool.{false}

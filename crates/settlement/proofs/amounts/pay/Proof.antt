@@ -1,3 +1,4 @@
+-- The flags are those of the file's marks, and each position names one of them: so a sum by the flags is the sum of a currency's amounts.
 use Rattle.dayfile.specs.Records.{marksIn, positionsIn}
 use Rattle.settlement.proofs.Shares.{pays}
 use borrow.Author.Needs.{needs}

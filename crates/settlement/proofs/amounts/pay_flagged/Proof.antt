@@ -1,3 +1,5 @@
+-- At position i the first i places of the slice hold their positions' amounts, and each sum is that of its currency's among them, by the
+-- flags. Lots and changes are bounded, so no amount and no sum leaves 64 bits.
 use Prim.Native.Nat.{_≤_, _-_}
 use mathlib.Core.Path.{_≡_, refl, ap, _∙_}
 use native.Mathlib.Omega.{arith}

@@ -1,3 +1,4 @@
+-- Lots and a change in value are bounded, so that their product fits an i64.
 use mathlib.Core.Path.{_∙_}
 use native.Mathlib.Omega.{arith}
 use mir.Facts.{toZ-ofZ}

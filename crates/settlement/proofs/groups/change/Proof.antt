@@ -1,3 +1,4 @@
+-- No value is above 500,000,000 cents, so that `difference` may be asked for the two values of the mark.
 use mathlib.Core.Path.{refl, _∙_}
 use Rattle.dayfile.specs.Records.{marksIn}
 use Rattle.numbers.proofs.Signed.{back}

@@ -1,3 +1,4 @@
+-- No value is above 500,000,000 cents, so that `difference` may be asked for the two values of the contract.
 use Prim.Native.Nat.{ℕ}
 use lib.IntN.{pos, _-ℤ_}
 use Rattle.numbers.proofs.Chain.{by-two}

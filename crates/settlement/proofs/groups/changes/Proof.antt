@@ -1,3 +1,5 @@
+-- At mark i the entries of the marks before it, those flagged as done and those past the last mark are right. A step makes entry i right,
+-- and keeps right what was.
 use Prim.Native.Nat.{_-_}
 use mathlib.Core.Path.{refl, _∙_}
 use native.Mathlib.Omega.{arith}

@@ -1,3 +1,4 @@
+-- Two values of at most 500,000,000 cents differ by a number that fits an i64.
 use mathlib.Core.Path.{_∙_}
 use native.Mathlib.Omega.{arith}
 use lib.IntN.{pos}

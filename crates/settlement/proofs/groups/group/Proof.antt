@@ -1,3 +1,4 @@
+-- At mark j all four places name marks below n of the product of mark i, the first of them i itself; a store at a later place keeps that.
 use Prim.Native.Nat.{_≤_, _<_, _-_}
 use native.Mathlib.Nat.{le-trans}
 use native.Mathlib.Omega.{arith}

@@ -1,3 +1,4 @@
+-- By the tests: j is answered only where its code is found to be that of i; i itself has that code, and stands before j.
 use native.Mathlib.Nat.{le-refl}
 use Rattle.settlement.proofs.Grouping.{alike-codes}
 use borrow.Author.Needs.{needs}

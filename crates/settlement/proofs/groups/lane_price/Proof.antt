@@ -1,3 +1,4 @@
+-- By the lane: the first four have the final prices of the group's marks, the other four their previous prices.
 use native.Mathlib.Omega.{arith}
 use borrow.Author.Tests.{lt-ltb, le-ltb}
 use Rattle.settlement.specs.Groups.{groupSize}

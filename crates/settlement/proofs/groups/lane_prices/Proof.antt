@@ -1,3 +1,4 @@
+-- At lane k the first k places hold the prices of their lanes.
 use Prim.Native.Nat.{_-_}
 use mathlib.Core.Path.{refl}
 use Rattle.dayfile.specs.Records.{marksIn}

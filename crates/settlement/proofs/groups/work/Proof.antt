@@ -1,3 +1,4 @@
+-- Three ways: an entry that is done is right already, a bond's is worked with its group, and any other is written as its mark's change.
 use mathlib.Core.Path.{sym, _∙_}
 use native.Mathlib.Nat.{le-trans}
 use native.Mathlib.Omega.{arith}

@@ -1,3 +1,5 @@
+-- All marks of the group have the code of mark i, so the lanes hold their values at the final and the previous prices, and the differences
+-- are their changes.
 use mathlib.Core.Path.{ap}
 use Rattle.dayfile.specs.Records.{marksIn}
 use Rattle.dayfile.specs.declared.records.Mark.{Mark}

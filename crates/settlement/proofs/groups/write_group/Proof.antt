@@ -1,3 +1,4 @@
+-- At k the changes of the group's first k marks are stored, one after the other, and so are their flags.
 use Prim.Native.Nat.{_≤_, _-_}
 use mathlib.Core.Path.{_≡_, refl, _∙_}
 use mathlib.Core.Bool.{true}

@@ -1,3 +1,4 @@
+-- By the correction: one of another mark, or with a lower number than the one that decides, changes nothing; any other decides now.
 use Rattle.settlement.proofs.OneMark.{after-other, after-kept, after-taken}
 use borrow.Author.Needs.{needs}
 use Rattle.settlement.proofs.one_mark.after.Statement.{statement}

@@ -1,3 +1,4 @@
+-- After k corrections d is the highest-numbered one of the first k that names the mark, if there is one.
 use Prim.Native.Nat.{_≤_, _-_}
 use mathlib.Core.Path.{_≡_, ap, _∙_}
 use native.Mathlib.Omega.{arith}

@@ -1,3 +1,5 @@
+-- By the index: 12 where there is no such mark; else the correction that decides, or today's price, gives the final price and with it the
+-- change (`mark-priced`).
 use Prim.Native.Nat.{_≤_, _<_}
 use mathlib.Core.Path.{_∙_}
 use native.Mathlib.Omega.{arith}

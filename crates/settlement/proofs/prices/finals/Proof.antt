@@ -1,3 +1,5 @@
+-- After k corrections each of the n marks has the price and the number of the highest-numbered one among them that names it, else today's
+-- price and 0.
 use Prim.Native.Nat.{_≤_, _<_, _-_}
 use mathlib.Core.Path.{_≡_, refl}
 use mathlib.Core.Logic.{⊎-elim}

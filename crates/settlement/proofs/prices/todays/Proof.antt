@@ -1,3 +1,4 @@
+-- At mark i the first i places hold their marks' prices of today.
 use Prim.Native.Nat.{_≤_, _-_}
 use mathlib.Core.Path.{_≡_, ap}
 use native.Mathlib.Nat.{le-trans}

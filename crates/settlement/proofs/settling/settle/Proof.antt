@@ -1,3 +1,4 @@
+-- By what the file is judged to be: a refusal is the plan and writes nothing; a sound file's sections are its lists, whose records passed.
 use lib.ListN.{length}
 use mathlib.Core.Path.{refl}
 use Rattle.dayfile.proofs.Parts.{lists-are}

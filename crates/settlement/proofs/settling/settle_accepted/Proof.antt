@@ -1,3 +1,5 @@
+-- With the array of all changes the amounts written are the plan's (`paid-is`), and a currency's sum of amounts is its total by net lots
+-- (`sum-is`).
 use Rattle.dayfile.specs.Records.{marksIn, correctionsIn}
 use Rattle.settlement.specs.Prices.{finalOf}
 use Rattle.settlement.specs.Steps.{blank}

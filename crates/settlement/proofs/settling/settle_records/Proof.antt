@@ -1,3 +1,4 @@
+-- By check 14: with fewer places than positions the plan is that refusal, else it is to accept the records.
 use native.Mathlib.Omega.{arith}
 use Rattle.dayfile.specs.Records.{listsOf}
 use Rattle.settlement.proofs.Plans.{refuses, settles-as, plan-short, plan-accepted}

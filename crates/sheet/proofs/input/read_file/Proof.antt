@@ -1,3 +1,4 @@
+-- At each read the buffer has its first length, and n is within it. A read that brings bytes brings at least one, so the room left shrinks.
 use borrow.Rule.Slice.PartMut.{putMid, same-len-mid}
 use lib.Seq.{length-take-le}
 use lib.ListN.{length}

@@ -1,3 +1,4 @@
+-- At step i the first i bytes are the text's, and the others are the buffer's own.
 use Rattle.text.proofs.Writing.{copied-more, copied, length-copied}
 use lib.ListN.{length, take, drop}
 use native.Mathlib.Omega.{arith}

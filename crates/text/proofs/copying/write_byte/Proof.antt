@@ -1,3 +1,4 @@
+-- By the room: without any nothing is written, and else the byte stands in the first place.
 use Rattle.text.proofs.Writing.{wrote-no-room, wrote-fitted, wrote-byte}
 use native.Mathlib.Omega.{arith}
 use mathlib.Core.List.{[], _∷_}

@@ -1,3 +1,4 @@
+-- By the room: a text that does not fit leaves the buffer as it is, and one that fits is copied.
 use Rattle.text.proofs.Writing.{wrote-no-room, wrote-fitted}
 use native.Mathlib.Omega.{arith}
 use borrow.Author.Needs.{needs}

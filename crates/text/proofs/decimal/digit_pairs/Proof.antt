@@ -1,3 +1,4 @@
+-- The constant is the digits of 00 to 99, byte for byte.
 use mathlib.Core.Path.{refl}
 use Rattle.text.specs.Table.{pairsFrom, digitPairs}
 use Rattle.text.proofs.decimal.digit_pairs.Statement.{statement}

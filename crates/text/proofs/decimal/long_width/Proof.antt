@@ -1,3 +1,5 @@
+-- At each power of ten k is one more than the number of digits that n has over n / power.
+-- Where n is below ten times the power, that quotient has one digit, and k counts all of n's.
 use Prim.Native.Nat.{_-_}
 use native.Mathlib.Omega.{arith}
 use Rattle.text.proofs.Decimals.{Counted, counted-none, counted-more, counted-all, decimal-64}

@@ -1,4 +1,4 @@
--- Of a negative number `negsuc n`, x + 1 is -n, whose negative is n.
+-- Of a negative number x, which is -(n + 1), x + 1 is -n, whose negative n fits; one more is x without its sign.
 use borrow.Author.Needs.{needs}
 use mathlib.Core.Path.{_≡_, refl, ap, _∙_}
 use mathlib.Core.Bool.{true, false, true≢false}

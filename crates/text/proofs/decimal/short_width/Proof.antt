@@ -1,3 +1,5 @@
+-- At each power of ten k is one more than the number of digits that n has over n / power, and is i as long as the power is not above n.
+-- At the last power n is below ten times it, so that n / power has one digit and k counts all of n's.
 use mathlib.Core.Path.{_≡_, refl}
 use Prim.Native.Nat.{_-_, _≤_}
 use native.Mathlib.Omega.{arith}

@@ -1,3 +1,4 @@
+-- By whether the number is below 0: its sign is then the minus sign, one byte, and else none.
 use mathlib.Core.Path.{refl}
 use mir.Facts.{toZ-ofZ}
 use Rattle.text.proofs.Table.{sign-negative, sign-plain}

@@ -1,3 +1,4 @@
+-- By the room: a number has as many figures as digits, so that its width tells whether they fit.
 use Rattle.text.proofs.Writing.{wrote-no-room, wrote-fitted}
 use Rattle.text.specs.Table.{decimalBy}
 use Rattle.text.proofs.Table.{by-length}

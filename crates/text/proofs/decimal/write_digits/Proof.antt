@@ -1,3 +1,5 @@
+-- At each step the buffer with the figures of the rest written to its start, the last in the place i, is the finished one:
+-- the last two figures are stored, and the rest's hundredth is left.
 use native.Mathlib.Nat.{div-lt-self}
 use mathlib.Core.Path.{_≡_, refl, sym, _∙_}
 use Prim.Native.Nat.{_<_}

@@ -1,3 +1,4 @@
+-- By whether the number has one digit or two: a single one overwrites the figure that was stored in its place.
 use Rattle.text.proofs.Table.{first-written}
 use borrow.Author.Needs.{needs}
 use Rattle.text.proofs.decimal.write_first.Statement.{statement}

@@ -1,3 +1,4 @@
+-- A sign is none or the minus sign, so that its length tells which, and the digits are those of the number without its sign.
 use Rattle.text.specs.Table.{signedDecimalBy}
 use Rattle.text.proofs.Table.{sign-is}
 use mir.Facts.{toZ-ofZ}

@@ -1,3 +1,4 @@
+-- By the room: a minus sign is stored first and the digits from s on; where s is 0 they cover it, as every number has a digit.
 use Rattle.text.proofs.Writing.{wrote-no-room, wrote-fitted, wrote-byte, wrote-over, wrote-length}
 use Rattle.text.proofs.Decimals.{decimal-64, some-digit}
 use Rattle.text.proofs.Table.{by-length, sized}

@@ -1,3 +1,4 @@
+-- The corrections' start and the positions' start lie the corrections' length apart, so that the bytes between them are the corrections.
 use Rattle.dayfile.proofs.Parts.{section-is}
 use Prim.Native.Nat.{_*_}
 use Rattle.dayfile.specs.Records.{correctionSize}

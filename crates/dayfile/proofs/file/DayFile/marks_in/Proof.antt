@@ -1,3 +1,4 @@
+-- The header's end and the corrections' start lie the marks' length apart, so that the bytes between them are the marks.
 use mathlib.Core.Path.{refl}
 use Rattle.dayfile.proofs.Parts.{section-is}
 use Prim.Native.Nat.{_*_}

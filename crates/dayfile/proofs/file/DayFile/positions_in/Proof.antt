@@ -1,3 +1,4 @@
+-- The positions' start and the file's end lie the positions' length apart, so that the bytes between them are the positions.
 use Rattle.dayfile.proofs.Parts.{section-is}
 use Prim.Native.Nat.{_*_}
 use Rattle.dayfile.specs.Records.{positionSize}

@@ -1,3 +1,4 @@
+-- By what is decided so far, what was found, and whether the condition is looked at; one that found nothing decides nothing either way.
 use mathlib.Core.Path.{_≡_, sym, ap, _∙_}
 use Rattle.numbers.specs.Order.{pick}
 use Rattle.numbers.specs.declared.deciding.Decision.the-variants.{Unmet}

@@ -1,3 +1,4 @@
+-- A sum and an amount within their bounds add up to a number that fits an i64.
 use Rattle.settlement.proofs.Sizes.{sum-fits, sum-gives}
 use Rattle.settlement.proofs.cents.NzdCents.plus.Statement.{statement}
 use Rattle.settlement.proofs.cents.NzdCents.plus.Tie as tie
