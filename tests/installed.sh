@@ -137,13 +137,13 @@ bash tools/install PREFIX="$odd/prefix" >/dev/null
 prints "a C program with an odd PREFIX" "$settled" from_odd "$odd/prefix/lib/pkgconfig" ..
 prints "the Python module of an odd PREFIX" "$odd/prefix/lib/libcitronreef.so.0" \
     env PYTHONPATH="$odd/prefix/lib/python3/dist-packages" python3 -c 'import citronreef; print(citronreef._library._name)'
-mkdir -p "$odd/work/target/staticlib"
-cp -r tools include "$odd/work"
-cp target/staticlib/libcitronreef.a "$odd/work/target/staticlib"
-bash "$odd/work/tools/libraries"
-prints "a C program with an odd repository" "$settled" from_odd "$odd/work/target/lib" .
+mkdir -p "$odd/checkout/target/staticlib"
+cp -r tools include "$odd/checkout"
+cp target/staticlib/libcitronreef.a "$odd/checkout/target/staticlib"
+bash "$odd/checkout/tools/libraries"
+prints "a C program with an odd repository" "$settled" from_odd "$odd/checkout/target/lib" .
 mkdir "$work/with(parentheses)"
-cp -r "$odd/work/"* "$work/with(parentheses)"
+cp -r "$odd/checkout/"* "$work/with(parentheses)"
 told=$(bash "$work/with(parentheses)/tools/libraries" 2>&1) || fail "libraries where pkg-config cannot say the folder: $told"
 [[ $told = pkgconfig:* ]] && [ ! -e "$work/with(parentheses)/target/lib/citronreef.pc" ] || fail "no pkg-config file there: $told"
 ok "where pkg-config cannot say the folder, the libraries are made and it is told"
