@@ -21,6 +21,7 @@ sys.path[:] = [str(ROOT / "tests"), *(path for path in sys.path if Path(path).re
 import calculator
 import citronreef
 import settlement
+from calculator import PRICE_LIMIT
 from citronreef import Refusal
 from days import DOCUMENT_01_DAY, correction, file, position
 from random_days import random_day
@@ -29,7 +30,10 @@ from stored import cases
 
 NO_BOND = "the code is of no bond, and only a bond has a bracket"
 CODES = ("IR", "BB", "IB", "YT", "XT", "XX", "ZZ", "ir", "\0\0")
-PRICES = (0, 50, 100, 940_000, 950_000, 950_050, 950_100, 950_101, 999_900, 999_950, 1_000_000, 1_000_001, 1_000_100, 2**32 - 1)
+PRICES = (
+    *(0, 50, 100, 940_000, 950_000, 950_050, 950_100, 950_101),
+    *(PRICE_LIMIT - 100, PRICE_LIMIT - 50, PRICE_LIMIT, PRICE_LIMIT + 1, PRICE_LIMIT + 100, 2**32 - 1),
+)
 SIZES = ((1, 0, 1), (3, 5, 9), (20, 40, 60), (MAX_MARKS, MAX_CORRECTIONS, 300))
 
 

@@ -3,6 +3,7 @@ import struct
 
 from calculator import PRODUCTS
 from records import Correction, Day, Mark, Position, file_of
+from settlement import MAX_YEAR
 
 
 def mark(code=b"IR", month=3, year=18, previous=950_000, today=950_200):
@@ -34,7 +35,7 @@ def with_header(whole, **changed):
 
 def contracts(count):
     """Marks of so many different contracts, every product among them."""
-    listed = [(code, month, year) for year in range(100) for code, p in PRODUCTS.items() for month in p.months]
+    listed = [(code, month, year) for year in range(MAX_YEAR + 1) for code, p in PRODUCTS.items() for month in p.months]
     return [mark(code, month, year) for code, month, year in listed[:count]]
 
 

@@ -2,6 +2,7 @@
 from calculator import PRICE_LIMIT
 from days import contracts
 from records import Correction, Day, Mark, Position
+from settlement import MAX_LOTS
 
 
 class Random:
@@ -39,7 +40,7 @@ def random_corrections(random, marks, count):
 
 
 def random_position(random, marks):
-    lots = random.below(1_000_000) + 1
+    lots = random.below(MAX_LOTS) + 1
     return Position(random.below(2**32), random.below(len(marks)), lots if random.below(2) else -lots)
 
 

@@ -8,6 +8,7 @@ from calculator import LARGEST_U32, PRICE_LIMIT, PRODUCTS
 from days import DOCUMENT_01_DAY, contracts, correction, day, file, mark, position, with_header
 from random_days import random_day
 from records import MAX_CORRECTIONS, MAX_MARKS, MAX_POSITIONS, file_of
+from settlement import MAX_LOTS, MAX_YEAR
 
 LARGEST_I32 = 2**31 - 1
 SMALLEST_I32 = -(2**31)
@@ -32,7 +33,7 @@ LAYOUT = [
     ("marks_above_limit", file(contracts(MAX_MARKS + 1))),
     ("corrections_at_limit", file(corrections=[correction(k) for k in range(MAX_CORRECTIONS)])),
     ("corrections_above_limit", file(corrections=[correction(k) for k in range(MAX_CORRECTIONS + 1)])),
-    ("positions_at_limit", file([mark(b"IR", 3, 18, 0, PRICE_LIMIT)], [], [position(1_000_000)] * MAX_POSITIONS)),
+    ("positions_at_limit", file([mark(b"IR", 3, 18, 0, PRICE_LIMIT)], [], [position(MAX_LOTS)] * MAX_POSITIONS)),
     ("positions_above_limit", file(positions=[position()] * (MAX_POSITIONS + 1))),
     ("largest_counts", struct.pack("<6I", LARGEST_U32, 24, LARGEST_U32, 12, LARGEST_U32, 0)),
     ("counts_that_would_wrap", wrapping_counts()),
@@ -56,8 +57,8 @@ MARKS = [
     ("month_13", file([mark(b"IB", month=13)])),
     ("month_of_no_quarter", file([mark(month=3), mark(month=4)])),
     ("month_of_a_cash_rate", file([mark(b"IB", month=4)])),
-    ("year_99", file([mark(year=99)])),
-    ("year_100", file([mark(year=100)])),
+    ("year_99", file([mark(year=MAX_YEAR)])),
+    ("year_100", file([mark(year=MAX_YEAR + 1)])),
     ("price_0_to_limit", file([mark(previous=0, today=PRICE_LIMIT)])),
     ("previous_price_above_limit", file([mark(previous=PRICE_LIMIT + 100)])),
     ("today_price_above_limit", file([mark(), mark(month=6, today=PRICE_LIMIT + 1)])),
@@ -100,10 +101,10 @@ POSITIONS = [
     ("no_marks_with_positions", file([], [])),
     ("position_names_no_mark", file(TWO_MARKS, [], [position(), position(mark=2)])),
     ("lots_0", file(positions=[position(), position(-3), position(0)])),
-    ("most_lots_long", file(positions=[position(1_000_000)])),
-    ("most_lots_short", file(positions=[position(-1_000_000)])),
-    ("one_lot_too_many_long", file(positions=[position(1_000_001)])),
-    ("one_lot_too_many_short", file(positions=[position(-1_000_001)])),
+    ("most_lots_long", file(positions=[position(MAX_LOTS)])),
+    ("most_lots_short", file(positions=[position(-MAX_LOTS)])),
+    ("one_lot_too_many_long", file(positions=[position(MAX_LOTS + 1)])),
+    ("one_lot_too_many_short", file(positions=[position(-MAX_LOTS - 1)])),
     ("smallest_i32_lots", file(positions=[position(SMALLEST_I32)])),
     ("one_account_twice_in_a_mark", file(positions=[position(10), position(10)])),
     ("as_many_places_as_positions", file_of(DOCUMENT_01_DAY), 2),
@@ -115,7 +116,7 @@ POSITIONS = [
 
 ORDER = [
     ("code_before_month", file([mark(month=1), mark(b"ZZ")])),
-    ("year_before_limit", file([mark(today=PRICE_LIMIT + 100), mark(year=100)])),
+    ("year_before_limit", file([mark(today=PRICE_LIMIT + 100), mark(year=MAX_YEAR + 1)])),
     ("limit_before_tick", file([mark(today=950_001), mark(month=6, today=PRICE_LIMIT + 100)])),
     ("limit_before_tick_in_one_price", file([mark(today=PRICE_LIMIT + 1)])),
     ("tick_before_repeated_mark", file([mark(), mark(), mark(month=6, previous=1)])),

@@ -46,7 +46,7 @@ UNLISTED = [
     *[bytes([0, 0]), bytes([73, 0]), b"  ", b" B", bytes([201, 210]), bytes([255, 255])],
 ]
 EVERY_CODE = [bytes([first, second]) for first in range(256) for second in range(256)]
-PRICES_OF_ANY_CODE = (950_000, 0, 1_000_001, 950_025)
+PRICES_OF_ANY_CODE = (950_000, 0, PRICE_LIMIT + 1, 950_025)
 
 
 def sweep_product(code, product):
@@ -55,10 +55,10 @@ def sweep_product(code, product):
     print_digest(code, "digest", listed_prices(product))
     print_lines(code, price_range(950_000, 950_100, 25))
     print_digest(code, "off tick digest", price_range(0, PRICE_LIMIT, 37))
-    print_lines(code, price_range(999_900, 1_000_100, 25))
-    print_lines(code, price_range(1_000_001, LARGEST_U32, 2_146_983_647))
+    print_lines(code, price_range(PRICE_LIMIT - 100, PRICE_LIMIT + 100, 25))
+    print_lines(code, price_range(PRICE_LIMIT + 1, LARGEST_U32, 2_146_983_647))
     print_lines(code, price_range(4_294_967_200, LARGEST_U32, 25))
-    print_digest(code, "just above digest", price_range(1_000_001, 1_010_000, 1))
+    print_digest(code, "just above digest", price_range(PRICE_LIMIT + 1, PRICE_LIMIT + 10_000, 1))
     print_digest(code, "far above digest", price_range(1_048_592, LARGEST_U32, 65_537))
 
 

@@ -29,7 +29,8 @@ use Rattle.dayfile.specs.declared.records.Correction.{Correction}
 use Rattle.dayfile.specs.declared.records.Position.{Position}
 use Rattle.dayfile.proofs.Refusals.{header-agrees}
 use Rattle.checks.specs.Table.{aboveLimit, listed, listedIn, quoted, quotedIn, tickOf, tickIn}
-use Rattle.checks.specs.Marks.{Quoted, OffTick, offTick, SameContract, sameContract, contractPair, MarkCheck, MarkCode, MarkDate, MarkLimit, MarkTick, MarkRepeated, markChecks, tooManyMarks, markListChecks}
+use Rattle.checks.specs.Marks.{Quoted, OffTick, offTick, SameContract, sameContract, contractPair}
+use Rattle.checks.specs.Marks.{MarkCheck, MarkCode, MarkDate, MarkLimit, MarkTick, MarkRepeated, markChecks, tooManyMarks, markListChecks}
 use Rattle.checks.specs.Corrections.{Clash, clashing, clashPair, CorrectionCheck, CorrectionMark, CorrectionPrice, CorrectionClash, correctionChecks, tooManyCorrections, correctionListChecks}
 use Rattle.checks.specs.Positions.{badLots, PositionCheck, PositionMark, PositionLots, positionChecks, tooManyPositions, positionListChecks}
 use Rattle.checks.specs.Judging.{recordChecks, fileChecks}

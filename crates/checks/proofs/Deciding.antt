@@ -20,9 +20,12 @@ use Rattle.dayfile.specs.declared.records.Mark.{Mark}
 use Rattle.dayfile.specs.declared.records.Correction.{Correction}
 use Rattle.dayfile.specs.declared.records.Position.{Position}
 use Rattle.checks.specs.Marks.{contractPair, markCheck, MarkCheck, MarkCode, MarkDate, MarkLimit, MarkTick, MarkRepeated, markChecks}
-use Rattle.checks.specs.Corrections.{clashPair, correctionCheck, CorrectionCheck, CorrectionMark, CorrectionPrice, CorrectionClash, correctionChecks, tooManyCorrections, correctionsJudged, resentOf}
+use Rattle.checks.specs.Corrections.{clashPair, correctionCheck, CorrectionCheck, CorrectionMark, CorrectionPrice, CorrectionClash, correctionChecks}
+use Rattle.checks.specs.Corrections.{tooManyCorrections, correctionsJudged, resentOf}
 use Rattle.checks.specs.Positions.{positionCheck, PositionCheck, PositionMark, PositionLots, positionChecks}
-use Rattle.checks.specs.Faults.{markFaults, correctionFaults, positionFaults, anyMarkFault, anyCorrectionFault, anyPositionFault, someMarkFault, someCorrectionFault, somePositionFault, markFindings, correctionFindings, positionFindings, WithMark, WithCorrection, WithPosition, markDecision, correctionDecision, positionDecision}
+use Rattle.checks.specs.Faults.{markFaults, anyMarkFault, someMarkFault, markFindings, WithMark, markDecision}
+use Rattle.checks.specs.Faults.{correctionFaults, anyCorrectionFault, someCorrectionFault, correctionFindings, WithCorrection, correctionDecision}
+use Rattle.checks.specs.Faults.{positionFaults, anyPositionFault, somePositionFault, positionFindings, WithPosition, positionDecision}
 use Rattle.checks.specs.declared.marks.MarkFaults.{MarkFaults}
 use Rattle.checks.specs.declared.marks.MarkFindings.{MarkFindings}
 use Rattle.checks.specs.declared.corrections.CorrectionsJudged.{CorrectionsJudged}

@@ -95,7 +95,8 @@ correctionFindings ms cs n =
     record { missing = first (correctionCheck ms cs CorrectionMark .test) n; price = first (correctionCheck ms cs CorrectionPrice .test) n }
 
 abbrev pub positionFindings : List Mark → List Position → ℕ → PositionFindings
-positionFindings ms ps n = record { missing = first (positionCheck ms ps PositionMark .test) n; lots = first (positionCheck ms ps PositionLots .test) n }
+positionFindings ms ps n =
+    record { missing = first (positionCheck ms ps PositionMark .test) n; lots = first (positionCheck ms ps PositionLots .test) n }
 
 -- one record more
 abbrev pub also : Found → Bool → ℕ → Found
@@ -118,11 +119,12 @@ pub record WithPosition (f : PositionFindings) (l : PositionFaults) (i : ℕ) (r
 -- the checks one after the other, those that are looked at, by what was found
 abbrev pub markDecision : MarkFindings → Found → Wanted → Decision
 markDecision f repeated w =
-    orFound (orFound (orFound (orFound (orFound Unmet 4 (sought w 4 (f .code))) 5 (sought w 5 (f .date))) 6 (sought w 6 (f .high))) 7 (sought w 7 (f .off)))
-    8 (sought w 8 repeated)
+    orFound (orFound (orFound (orFound (orFound Unmet 4 (sought w 4 (f .code))) 5 (sought w 5 (f .date))) 6 (sought w 6 (f .high)))
+    7 (sought w 7 (f .off))) 8 (sought w 8 repeated)
 
 abbrev pub correctionDecision : CorrectionFindings → Found → Wanted → Decision
-correctionDecision f clash w = orFound (orFound (orFound Unmet 9 (sought w 9 (f .missing))) 10 (sought w 10 (f .price))) 11 (sought w 11 clash)
+correctionDecision f clash w =
+    orFound (orFound (orFound Unmet 9 (sought w 9 (f .missing))) 10 (sought w 10 (f .price))) 11 (sought w 11 clash)
 
 abbrev pub positionDecision : PositionFindings → Wanted → Decision
 positionDecision f w = orFound (orFound Unmet 12 (sought w 12 (f .missing))) 13 (sought w 13 (f .lots))

@@ -17,7 +17,8 @@ use Rattle.checks.specs.declared.judging.Judged.the-variants.{Sound, Ref
 
 -- the checks over the records of three lists: 4 to 13
 abbrev pub recordChecks : Lists → Checks
-recordChecks ls = markChecks (ls .marks) before correctionChecks (ls .marks) (ls .corrections) before positionChecks (ls .marks) (ls .positions)
+recordChecks ls =
+    markChecks (ls .marks) before correctionChecks (ls .marks) (ls .corrections) before positionChecks (ls .marks) (ls .positions)
 
 -- those over a file: 1 to 13
 abbrev pub fileChecks : Limits → List ℕ → Checks

@@ -37,7 +37,8 @@ fn clashes_below(corrections: &[u8], i: usize, k: u16) -> bool
 // The first correction that clashes with an earlier one. Where none before it does, it is enough to look at the last with the same number.
 pub(crate) fn first_clash(corrections: &[u8], numbers: &[u16; DayFile::MAX_CORRECTIONS]) -> Found
     requires { ⌜ Lasts (correctionsIn (now corrections)) (now numbers) ⌝ }
-    ensures { λ r. ⌜ r ≡ first (repeating (clashPair (correctionsIn (now (corrections .entry))))) (length (correctionsIn (now (corrections .entry)))) ⌝ }
+    ensures { λ r. ⌜ r ≡ first (repeating (clashPair (correctionsIn (now (corrections .entry)))))
+        (length (correctionsIn (now (corrections .entry)))) ⌝ }
 {
     let n = correction_count(corrections);
     let mut i = 0;

@@ -21,7 +21,8 @@ ghost use Rattle.numbers.specs.Checks.{decisionFor};
 ghost use Rattle.dayfile.specs.Limits.{fileLimits};
 ghost use Rattle.dayfile.specs.Records.{marksIn, correctionsIn};
 ghost use Rattle.checks.specs.Corrections.{correctionChecks, correctionsJudged, resentOf};
-ghost use Rattle.checks.specs.Faults.{correctionFaults, anyCorrectionFault, someCorrectionFault, correctionFindings, WithCorrection, correctionDecision, Ticks};
+ghost use Rattle.checks.specs.Faults.{correctionFaults, anyCorrectionFault, someCorrectionFault};
+ghost use Rattle.checks.specs.Faults.{correctionFindings, WithCorrection, correctionDecision, Ticks};
 
 // What is wrong with a correction by itself.
 pub struct CorrectionFaults {
@@ -136,7 +137,8 @@ pub(crate) fn decide_corrections(
     wanted: Wanted,
 ) -> CorrectionsJudged
     requires { ⌜ Ticks (marksIn (now marks)) (now ticks) × (length (correctionsIn (now corrections)) ≤ fileLimits .corrections) ⌝ }
-    ensures { λ r. ⌜ (r .decision ≡ decisionFor (correctionChecks (marksIn (now (marks .entry))) (correctionsIn (now (corrections .entry)))) wanted)
+    ensures { λ r. ⌜ (r .decision
+        ≡ decisionFor (correctionChecks (marksIn (now (marks .entry))) (correctionsIn (now (corrections .entry)))) wanted)
         × (r .resent ≡ resentOf (correctionsIn (now (corrections .entry)))) ⌝ }
 {
     let bad = some_fault(marks, ticks, corrections);

@@ -18,14 +18,16 @@ ghost use Rattle.checks.specs.Finding.{foundOf};
 // What check k decides by itself, of those over records.
 fn decide_one(marks: &[u8], corrections: &[u8], positions: &[u8], k: u32) -> Decision
     requires { ⌜ Small (listsOf (now marks) (now corrections) (now positions)) ⌝ }
-    ensures { λ r. ⌜ r ≡ decisionFor (recordChecks (listsOf (now (marks .entry)) (now (corrections .entry)) (now (positions .entry)))) (One k) ⌝ }
+    ensures { λ r. ⌜ r ≡ decisionFor (recordChecks (listsOf (now (marks .entry)) (now (corrections .entry)) (now (positions .entry))))
+        (One k) ⌝ }
 {
     let judged = decide_records(marks, corrections, positions, Wanted::One(k));
     judged.decision
 }
 
-// The first record where the condition of check k holds, whatever the other checks say; k is a number from 1 to 13, and any other finds nothing.
-// Of a file that is shorter than a header its length alone is looked at, and of one that has a count above its limit the header alone.
+// The first record where the condition of check k holds, whatever the other checks say; k is a number from 1 to 13, and any other
+// finds nothing. Of a file that is shorter than a header its length alone is looked at, and of one that has a count above its limit
+// the header alone.
 pub fn find(file: &[u8], k: u32) -> Found
     ensures { λ r. ⌜ r ≡ foundOf fileLimits (now (file .entry)) k ⌝ }
 {

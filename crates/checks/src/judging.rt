@@ -36,7 +36,8 @@ pub(crate) fn decide_records(
     wanted: Wanted,
 ) -> RecordsJudged
     requires { ⌜ Small (listsOf (now marks) (now corrections) (now positions)) ⌝ }
-    ensures { λ r. ⌜ (r .decision ≡ decisionFor (recordChecks (listsOf (now (marks .entry)) (now (corrections .entry)) (now (positions .entry)))) wanted)
+    ensures { λ r. ⌜ (r .decision
+        ≡ decisionFor (recordChecks (listsOf (now (marks .entry)) (now (corrections .entry)) (now (positions .entry)))) wanted)
         × (r .resent ≡ resentOf (correctionsIn (now (corrections .entry)))) ⌝ }
 {
     let mut ticks = [0u32; DayFile::MAX_MARKS];

@@ -15,7 +15,8 @@ ghost use Rattle.numbers.specs.Checks.{decisionOf, decisionFor};
 ghost use Rattle.dayfile.specs.Limits.{fileLimits};
 ghost use Rattle.dayfile.specs.Records.{marksIn, positionsIn};
 ghost use Rattle.checks.specs.Positions.{positionChecks, positionListChecks};
-ghost use Rattle.checks.specs.Faults.{rawFaults, anyPositionFault, somePositionFault, positionFindings, WithPosition, positionDecision};
+ghost use Rattle.checks.specs.Faults.{rawFaults, anyPositionFault, somePositionFault};
+ghost use Rattle.checks.specs.Faults.{positionFindings, WithPosition, positionDecision};
 
 // The most lots that a position may have, bought or sold.
 const LOTS_LIMIT: u32 = 1_000_000;
@@ -28,8 +29,8 @@ pub struct PositionFaults {
     pub lots: bool,
 }
 
-// The faults of a position as its bytes have it, given how many marks there are. The lots are moved up by the limit, so that those that pass are
-// the lowest numbers.
+// The faults of a position as its bytes have it, given how many marks there are. The lots are moved up by the limit, so that those
+// that pass are the lowest numbers.
 fn faults(n: u32, w: RawPosition) -> PositionFaults
     ensures { λ r. ⌜ r ≡ rawFaults n w ⌝ }
 {
@@ -132,7 +133,8 @@ pub(crate) fn decide_positions(marks: &[u8], positions: &[u8], wanted: Wanted) -
 
 // What the checks decide of a list of positions, given the marks: 2 where a file may not have as many of either, then 12 and 13.
 pub fn check_positions(marks: &[u8], positions: &[u8]) -> Decision
-    ensures { λ r. ⌜ r ≡ decisionOf (positionListChecks fileLimits (marksIn (now (marks .entry))) (positionsIn (now (positions .entry)))) ⌝ }
+    ensures { λ r. ⌜ r ≡ decisionOf
+        (positionListChecks fileLimits (marksIn (now (marks .entry))) (positionsIn (now (positions .entry)))) ⌝ }
 {
     if (mark_count(marks) > DayFile::MAX_MARKS)
         | (position_count(positions) > DayFile::MAX_POSITIONS)

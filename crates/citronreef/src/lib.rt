@@ -207,7 +207,8 @@ pub extern "C" fn citronreef_find(file: &[u8], check: u32) -> Finding
 // less than report::SHEET_SIZE bytes nothing is written, and the answer is 0.
 #[no_mangle]
 pub extern "C" fn citronreef_sheet(file: &[u8], amounts: &mut [i64], out: &mut [u8]) -> usize
-    ensures sheet { λ r. ⌜ Wrote (sheetWithin (length (now (out .entry))) (now (file .entry)) (length (now (amounts .entry)))) r (now (out .entry)) (now (out .exit)) ⌝ }
+    ensures sheet { λ r. ⌜ Wrote (sheetWithin (length (now (out .entry))) (now (file .entry)) (length (now (amounts .entry))))
+        r (now (out .entry)) (now (out .exit)) ⌝ }
     ensures amounts { λ r. ⌜ now (amounts .exit) ≡ amountsWithin (length (now (out .entry))) (now (file .entry)) (now (amounts .entry)) ⌝ }
 {
     report::sheet(file, amounts, out)

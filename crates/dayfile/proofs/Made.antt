@@ -54,7 +54,8 @@ module _ (ms cs ps : List ℕ) (d : DayFile) (w : Whole ms cs ps d) where
 
   pub made-length : length made ≡ lengthOf d
   made-length =
-      rw (made-is, length-append (headerOf d ++ ms ++ cs) ps, length-append (headerOf d ++ ms) cs, length-append (headerOf d) ms, length-header d) (omega (arith, w .marks, w .corrections, w .positions))
+      rw (made-is, length-append (headerOf d ++ ms ++ cs) ps, length-append (headerOf d ++ ms) cs, length-append (headerOf d) ms, length-header d)
+      (omega (arith, w .marks, w .corrections, w .positions))
 
   pub made-marks-at : u32At made 4 ≡ headerSize
   unfolding u32At headerOf entryBytes u32Bytes

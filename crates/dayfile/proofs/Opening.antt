@@ -84,7 +84,17 @@ module _ (l : Limits) (f : List ℕ) where
   pub laid-opens : Laid l f → openedOf l f ≡ File (countsOf f)
   unfolding countsOf
   laid-opens h =
-      opened-by-tests l f ∙ simp (le-ltb _ _ (h .header), le-leb _ _ (h .marks-fit), le-leb _ _ (h .corrections-fit), le-leb _ _ (h .positions-fit), eq-eqb _ _ (h .marks-at), eq-eqb _ _ (h .corrections-at), eq-eqb _ _ (h .positions-at), eq-eqb _ _ (h .ends-at))
+      opened-by-tests l f
+      ∙ simp (
+        le-ltb _ _ (h .header),
+        le-leb _ _ (h .marks-fit),
+        le-leb _ _ (h .corrections-fit),
+        le-leb _ _ (h .positions-fit),
+        eq-eqb _ _ (h .marks-at),
+        eq-eqb _ _ (h .corrections-at),
+        eq-eqb _ _ (h .positions-at),
+        eq-eqb _ _ (h .ends-at),
+      )
 
 -- the counts that are given, by checks 1 and 2 alone
 module _ (l : Limits) (f : List ℕ) where

@@ -16,7 +16,10 @@ unfoldable pub entryBytes : ℕ → ℕ → List ℕ
 entryBytes count at = u32Bytes count ++ u32Bytes at
 
 unfoldable pub headerOf : DayFile → List ℕ
-headerOf d = entryBytes (d .marks) headerSize ++ entryBytes (d .corrections) (correctionsStart d) ++ entryBytes (d .positions) (positionsStart d)
+headerOf d =
+    entryBytes (d .marks) headerSize
+    ++ entryBytes (d .corrections) (correctionsStart d)
+    ++ entryBytes (d .positions) (positionsStart d)
 
 -- the file of three lists
 unfoldable pub madeOf : List ℕ → List ℕ → List ℕ → List ℕ

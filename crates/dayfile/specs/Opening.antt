@@ -23,7 +23,8 @@ withinLimits l d = leb (d .marks) (l .marks) && leb (d .corrections) (l .correct
 
 abbrev pub asLaidOut : List ℕ → DayFile → Bool
 asLaidOut f d =
-    eqb (u32At f 4) headerSize && eqb (u32At f 12) (correctionsStart d) && eqb (u32At f 20) (positionsStart d) && eqb (length f) (lengthOf d)
+    eqb (u32At f 4) headerSize && eqb (u32At f 12) (correctionsStart d)
+    && eqb (u32At f 20) (positionsStart d) && eqb (length f) (lengthOf d)
 
 pub data HeaderCheck : Type 0 where
   Short : HeaderCheck

@@ -11,7 +11,8 @@ ghost use Prim.Native.Nat.{_-_, _≤_};
 ghost use lib.ListN.{length};
 ghost use Rattle.dayfile.specs.Limits.{fileLimits};
 ghost use Rattle.numbers.specs.Bytes.{part};
-ghost use Rattle.dayfile.specs.Layout.{headerSize, countsOf, correctionsStart, positionsStart, lengthOf, markBytes, correctionBytes, positionBytes};
+ghost use Rattle.dayfile.specs.Layout.{headerSize, countsOf, correctionsStart, positionsStart, lengthOf};
+ghost use Rattle.dayfile.specs.Layout.{markBytes, correctionBytes, positionBytes};
 ghost use Rattle.dayfile.specs.Opening.{withinLimits, asLaidOut, openedOf, decidedByTests, headerDecision, countedOf};
 
 // The counts of a day file's three sections.

@@ -5,7 +5,9 @@ use products::Code;
 ghost use mathlib.Core.Path.{_≡_};
 ghost use Prim.Native.Nat.{_≤_};
 ghost use lib.ListN.{length};
-ghost use Rattle.dayfile.specs.Records.{markSize, correctionSize, positionSize, markOf, correctionOf, marksIn, correctionsIn, positionsIn, markAt, correctionAt, positionAt, rawPositionOf, rawPositionsIn, rawPositionAt};
+ghost use Rattle.dayfile.specs.Records.{markSize, correctionSize, positionSize, markOf, correctionOf, rawPositionOf};
+ghost use Rattle.dayfile.specs.Records.{marksIn, correctionsIn, positionsIn, rawPositionsIn};
+ghost use Rattle.dayfile.specs.Records.{markAt, correctionAt, positionAt, rawPositionAt};
 
 pub struct Mark {
     pub code: Code,
@@ -27,7 +29,8 @@ pub struct Position {
     pub lots: i64,
 }
 
-// A position as its bytes have it: three numbers of 32 bits, the lots in two's complement. The compiler takes four such positions at a time.
+// A position as its bytes have it: three numbers of 32 bits, the lots in two's complement. The compiler takes four such positions
+// at a time.
 pub struct RawPosition {
     pub account: u32,
     pub mark: u32,

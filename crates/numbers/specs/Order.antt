@@ -13,8 +13,8 @@ use Rattle.numbers.specs.declared.deciding.Wanted.{Wanted}
 use Rattle.numbers.specs.declared.deciding.Wanted.the-variants.{All, One}
 
 module _ {R : Type 0} (number : R → ℕ) (Holds : R → ℕ → Type 0) where
-  -- Condition k decides at record i: it holds there and at no record before it, and no condition that stands before it in the order holds at
-  -- any record.
+  -- Condition k decides at record i: it holds there and at no record before it, and no condition that stands before it in the order
+  -- holds at any record.
   pub record Decides (order : List R) (k i : ℕ) : Type 0 where
     pub condition : R
     pub numbered : number condition ≡ k

@@ -1,7 +1,7 @@
 -- How far a value lies from the exact one: by the terms, and by the product.
 use mathlib.Core.Path.{_≡_, ap}
 use mathlib.Core.Bool.{Bool, true, false, _||_}
-use Prim.Native.Nat.{ℕ, _+_, _*_, _-_, _/_, _%_, _≤_, _<_}
+use Prim.Native.Nat.{ℕ, _+_, _*_, _/_, _%_, _≤_, _<_}
 use native.Mathlib.Nat.{mul-le-mul-left, mul-pos, one-le-pow, div-add-mod'}
 use native.Mathlib.Omega.{arith}
 use lib.Dec.{lit≤, T, leb, eqb, leb→le, eqb→eq}
@@ -14,7 +14,7 @@ use Rattle.numbers.proofs.Nearness.{near-scale, near-cancel, near-as, near-then
 use Rattle.numbers.proofs.Fractions.{Close, close-more, close-rounded, close-whole, multiple-within}
 use Rattle.products.specs.Products.{priceLimit, products, find, sameCode}
 use Rattle.pricing.specs.Value.{scale, billDividend, billDivisor, bondDivisor, valueBy, exactBy, exactOf}
-use Rattle.pricing.specs.Accuracy.{numberIn, accuracyFigures, accuracyOf}
+use Rattle.pricing.specs.Accuracy.{twiceDistance, numberIn, accuracyFigures, accuracyOf}
 use Rattle.products.specs.declared.table.Code.{Code}
 use Rattle.products.specs.declared.table.Product.{Product}
 use Rattle.products.specs.declared.table.Found.the-variants.{At}
@@ -24,10 +24,6 @@ use Rattle.pricing.proofs.Distance.{ladder-distance}
 use Rattle.products.proofs.Finding.{Every, of-found, found-code}
 use Rattle.pricing.proofs.Bounds.{scale-positive, bond-divisor, bill-divisor}
 use Rattle.pricing.proofs.Answers.{Listed, exact-of}
-
--- c n² + 200 n − 100: twice the distance of the ladder's bracket
-abbrev pub twiceDistance : ℕ → ℕ → ℕ
-twiceDistance c n = c * (n * n) + 200 * n - 100
 
 -- a bracket b within l / k units of the exact one, x / Q, and then the rounding of b times face
 bracket-close : (D k l b x Q face a : ℕ) → 0 < D → 0 < k → 0 < Q → Near (k * (b * Q)) (k * (D * x)) (l * Q)

@@ -1,48 +1,38 @@
 -- What an answer of a single-contract call says of the code and the price.
-use mathlib.Core.Path.{_≡_, refl, sym, _∙_}
-use mathlib.Core.Bool.{Bool, true, false, cond}
+use mathlib.Core.Path.{_≡_, refl}
+use mathlib.Core.Bool.{Bool, true, false}
 use Prim.Native.Nat.{ℕ, _+_, _-_, _%_, _≤_}
 use native.Mathlib.Omega.{arith}
 use borrow.Author.Tests.{le-leb, eq-eqb, leb-true, eqb-true}
 use lib.Dec.{leb, eqb}
 use Rattle.products.specs.Products.{priceLimit, find}
 use Rattle.pricing.specs.Value.{valueBy, exactBy, exactOf}
-use Rattle.pricing.specs.Calls.{Answer, given, refused, check, ofProduct, judged, after, valueOf, tickValueOf}
+use Rattle.pricing.specs.Calls.{Answer, given, refused, check, ofProduct, atPrice, valueOf, tickValueOf}
 use Rattle.products.specs.declared.table.Code.{Code}
 use Rattle.products.specs.declared.table.Product.{Product}
 use Rattle.products.specs.declared.table.Found.{Found}
 use Rattle.products.specs.declared.table.Found.the-variants.{At, Missing}
-use Rattle.pricing.specs.declared.contract.Judged.{Judged}
-use Rattle.pricing.specs.declared.contract.Judged.the-variants.{Passed, Failed}
 
 -- two answers that differ
 pub not-given : {A : Type 0} {k i n : ℕ} → refused k i ≡ given n → A
 not-given e = absurd (let z : _≡_ {A = ℕ} 0 1 = cc in omega arith)
-
-not-passed : {A : Type 0} {k : ℕ} → Failed k ≡ Passed → A
-not-passed e = absurd (let z : _≡_ {A = ℕ} 0 1 = cc in omega arith)
 
 -- a price of a product: within the limit, and on the tick
 pub record Listed (q : Product) (p : ℕ) : Type 0 where
   pub within : p ≤ priceLimit
   pub on-tick : p % q .tick ≡ 0
 
--- a price that passes 6 and 7 is within the limit and on the tick
-module _ (tick p : ℕ) where
-  both : (b d : Bool) → cond b (cond d Passed (Failed 7)) (Failed 6) ≡ Passed → (b ≡ true) × (d ≡ true)
-  both true true e = (refl, refl)
-  both true false e = not-passed e
-  both false d e = not-passed e
+-- a check that is passed on the way to a number
+checked : (k : ℕ) (b : Bool) {a : Answer} {n : ℕ} → check k b a ≡ given n → (b ≡ true) × (a ≡ given n)
+checked k true e = (refl, e)
+checked k false e = not-given e
 
-  pub passed : {j : Judged} → j ≡ judged tick p → j ≡ Passed → (p ≤ priceLimit) × (p % tick ≡ 0)
-  unfolding judged
-  passed d e =
-      let (f, g) = both (leb p priceLimit) (eqb (p % tick) 0) (sym d ∙ e) in
-      (leb-true _ _ f, eqb-true _ _ g)
-
-pub passes : {q : Product} {p : ℕ} → Listed q p → judged (q .tick) p ≡ Passed
-unfolding judged
-passes {q} {p} h = rw (le-leb p priceLimit (h .within), eq-eqb (p % q .tick) 0 (h .on-tick))
+-- a number that is given after 6 and 7: the price is within the limit and on the tick
+pub after-price : (tick p : ℕ) {a : Answer} {n : ℕ} → atPrice tick p a ≡ given n → (p ≤ priceLimit) × (p % tick ≡ 0) × (a ≡ given n)
+after-price tick p e =
+    let (b, f) = checked 6 (leb p priceLimit) e in
+    let (d, g) = checked 7 (eqb (p % tick) 0) f in
+    (leb-true _ _ b, eqb-true _ _ d, g)
 
 -- an answer a given at a price of the product that a code names
 pub record Priced (code : Code) (p : ℕ) (a : Product → Answer) (n : ℕ) : Type 0 where
@@ -51,19 +41,14 @@ pub record Priced (code : Code) (p : ℕ) (a : Product → Answer) (n : ℕ) : T
   pub listed : Listed product p
   pub answer : a product ≡ given n
 
-module _ (code : Code) (p : ℕ) (a : Product → Answer) {n : ℕ} where
-  of-judged : (q : Product) → find code ≡ At q → (j : Judged) → j ≡ judged (q .tick) p → after j (a q) ≡ given n → Priced code p a n
-  of-judged q f Passed d e =
-      let (w, t) = passed (q .tick) p d refl in
-      record { product = q; found = f; listed = record { within = w; on-tick = t }; answer = e }
-  of-judged q f (Failed k) d e = not-given e
-
-  of-found : (f : Found) → find code ≡ f → ofProduct f (λ q. after (judged (q .tick) p) (a q)) ≡ given n → Priced code p a n
-  of-found (At q) f e = of-judged q f (judged (q .tick) p) refl e
-  of-found Missing f e = not-given e
-
-  pub answered : ofProduct (find code) (λ q. after (judged (q .tick) p) (a q)) ≡ given n → Priced code p a n
-  answered e = of-found (find code) refl e
+pub answered : (code : Code) (p : ℕ) (a : Product → Answer) {n : ℕ} → ofProduct (find code) (λ q. atPrice (q .tick) p (a q)) ≡ given n → Priced code p a n
+answered code p a {n} = of-found (find code) refl
+  where
+    of-found : (f : Found) → find code ≡ f → ofProduct f (λ q. atPrice (q .tick) p (a q)) ≡ given n → Priced code p a n
+    of-found (At q) f e =
+        let (w, t, g) = after-price (q .tick) p e in
+        record { product = q; found = f; listed = record { within = w; on-tick = t }; answer = g }
+    of-found Missing f e = not-given e
 
 -- a value that is given is the product's, at a listed price
 pub record Valued (code : Code) (p n : ℕ) : Type 0 where
@@ -82,13 +67,9 @@ valued code p e =
 -- and the other way round
 pub gives-value : (code : Code) (p : ℕ) {q : Product} → find code ≡ At q → Listed q p → valueOf code p ≡ given (valueBy (q .terms) p)
 unfolding valueOf
-gives-value code p f h = rw (f, passes h)
+gives-value code p {q} f h = rw (f, le-leb p priceLimit (h .within), eq-eqb (p % q .tick) 0 (h .on-tick))
 
 -- a tick value that is given: the price is listed, the next one is within the limit, and this is their values' difference
-checked : (k : ℕ) (b : Bool) {a : Answer} {n : ℕ} → check k b a ≡ given n → (b ≡ true) × (a ≡ given n)
-checked k true e = (refl, e)
-checked k false e = not-given e
-
 pub tick-valued : (code : Code) (p : ℕ) {d : ℕ} {q : Product} → find code ≡ At q → tickValueOf code p ≡ given d
     → Listed q p × (valueBy (q .terms) (p + q .tick) - valueBy (q .terms) p ≡ d) × (p + q .tick ≤ priceLimit)
 unfolding tickValueOf

@@ -1,4 +1,4 @@
--- No step of a value leaves 64 bits, and no value is above 500,000,000 cents.
+-- How large the steps of a value get, and that no value is above 500,000,000 cents.
 use Prim.Native.Nat.{ℕ, _*_, _-_, _^_, _≤_, _<_}
 use native.Mathlib.Nat.{le-trans, le-refl, mul-le-mul, mul-le-mul-right}
 use native.Mathlib.Omega.{arith}
@@ -8,7 +8,8 @@ use Rattle.numbers.proofs.Rounding.{nearest-mono}
 use Rattle.products.specs.Products.{priceLimit}
 use Rattle.pricing.specs.Prices.{par, yieldAt}
 use Rattle.pricing.specs.Ladder.{base, firstFactor, factor, annuity, bracket}
-use Rattle.pricing.specs.Value.{scale, billDividend, billDivisor, bondDivisor, valueBy, StepsFit, Modest, valueCap}
+use Rattle.pricing.specs.Value.{scale, billDividend, billDivisor, bondDivisor, valueBy}
+use Rattle.pricing.specs.Sizes.{valueCap, Modest}
 use Rattle.products.specs.declared.table.Terms.{Terms}
 use Rattle.products.specs.declared.table.Terms.the-variants.{Bill, Bond, CashRate}
 use Rattle.pricing.proofs.Factors.{first-below, factor-below, annuity-below}
@@ -39,17 +40,6 @@ pub bracket-cap : {c n p : ℕ} → p ≤ priceLimit → c ≤ 3 → n ≤ 40 �
 unfolding bracket scale
 bracket-cap {c} {n} {p} h hc hn =
     omega (arith, mul-le-mul hc (le-trans (annuity-cap h n) (mul-le-mul-right scale hn)), factor-cap h n)
-
--- so that half a divisor more fits 64 bits
-pub steps-fit-by : {p : ℕ} → p ≤ priceLimit → (t : Terms) → Modest t → StepsFit t p
-unfolding billDividend billDivisor yieldAt par priceLimit scale
-steps-fit-by {p} h (Bill face days) s =
-    (omega (arith, s .0), omega (arith, mul-le-mul {m₁ = 1_000_000 - p} {m₂ = 1_000_000} (s .1) (omega arith)))
-steps-fit-by {p} h (Bond face c n) s = (
-  (λ k. omega (arith, mul-le-mul (factor-cap h k) (first-below scale (bondDivisor p) (bond-divisor h .0)))),
-  omega (arith, mul-le-mul (bracket-cap h (s .1) (s .3)) (s .0)),
-)
-steps-fit-by {p} h (CashRate cents) s = omega (arith, mul-le-mul s h)
 
 -- no value is above 500,000,000 cents
 pub value-by-cap : {p : ℕ} → p ≤ priceLimit → (t : Terms) → Modest t → valueBy t p ≤ valueCap

@@ -3,9 +3,9 @@ use mathlib.Core.Path.{_≡_, refl, sym, _∙_}
 use Prim.Native.Nat.{ℕ, _≤_, _<_}
 use native.Mathlib.Omega.{arith}
 use Rattle.products.specs.Products.{priceLimit, find}
-use Rattle.pricing.specs.Value.{Modest}
-use Rattle.pricing.specs.Calls.{Answer, ofProduct, judged, after}
-use Rattle.pricing.specs.Steps.{judgedProduct, checkIn, checkOf, ofChecked}
+use Rattle.pricing.specs.Sizes.{Modest}
+use Rattle.pricing.specs.Calls.{Answer, ofProduct, atPrice}
+use Rattle.pricing.specs.Steps.{judged, judgedProduct, checkIn, checkOf, ofChecked}
 use Rattle.products.specs.declared.table.Code.{Code}
 use Rattle.products.specs.declared.table.Product as table
 use Rattle.products.specs.declared.table.Terms.{Terms}
@@ -16,7 +16,7 @@ use Rattle.pricing.specs.declared.contract.Judged.the-variants.{Passed, 
 use Rattle.pricing.specs.declared.contract.Checked.{Checked}
 use Rattle.pricing.specs.declared.contract.Checked.the-variants.{Product}
 use Rattle.pricing.proofs.Lines.{sound}
-use Rattle.pricing.proofs.Answers.{passed}
+use Rattle.pricing.proofs.Judging.{after, as-judged, passed}
 
 -- terms and a tick of the table, at a price within the limit
 pub record Allowed (t : Terms) (tick p : ℕ) : Type 0 where
@@ -27,7 +27,7 @@ pub record Allowed (t : Terms) (tick p : ℕ) : Type 0 where
 
 module _ (code : Code) (p : ℕ) {o : Checked} (is : o ≡ checkOf code p) where
   -- an answer that goes by the product goes by what the checks leave
-  pub by-checked : (a : Terms → ℕ → Answer) {x : Checked} → o ≡ x → ofChecked x a ≡ ofProduct (find code) (λ q. after (judged (q .tick) p) (a (q .terms) (q .tick)))
+  pub by-checked : (a : Terms → ℕ → Answer) {x : Checked} → o ≡ x → ofChecked x a ≡ ofProduct (find code) (λ q. atPrice (q .tick) p (a (q .terms) (q .tick)))
   unfolding checkOf
   by-checked a e = rw (← e, is) (by-found (find code))
     where
@@ -35,8 +35,8 @@ module _ (code : Code) (p : ℕ) {o : Checked} (is : o ≡ checkOf code p) where
       by-judged q Passed = refl
       by-judged q (Failed k) = refl
 
-      by-found : (f : Found) → ofChecked (checkIn f p) a ≡ ofProduct f (λ q. after (judged (q .tick) p) (a (q .terms) (q .tick)))
-      by-found (At q) = by-judged q (judged (q .tick) p)
+      by-found : (f : Found) → ofChecked (checkIn f p) a ≡ ofProduct f (λ q. atPrice (q .tick) p (a (q .terms) (q .tick)))
+      by-found (At q) = by-judged q (judged (q .tick) p) ∙ as-judged (q .tick) p (a (q .terms) (q .tick))
       by-found Missing = refl
 
   module _ {t : Terms} {tick : ℕ} (e : o ≡ Product t tick) where

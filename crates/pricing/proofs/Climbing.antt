@@ -9,7 +9,8 @@ use Rattle.numbers.specs.Rounding.{nearest}
 use Rattle.numbers.proofs.Rounding.{nearest-mono}
 use Rattle.products.specs.Products.{priceLimit}
 use Rattle.pricing.specs.Ladder.{firstFactor, annuity, bracket}
-use Rattle.pricing.specs.Value.{scale, bondDivisor, Modest}
+use Rattle.pricing.specs.Value.{scale, bondDivisor}
+use Rattle.pricing.specs.Sizes.{Modest}
 use Rattle.pricing.specs.Rungs.{rungAt, nextOf, Low}
 use Rattle.pricing.specs.declared.ladder.Rung.{Rung}
 use Rattle.products.specs.declared.table.Terms.the-variants.{Bond}
@@ -21,7 +22,8 @@ pub first-rung : (p : ℕ) {r : ℕ} → r ≡ firstFactor scale (bondDivisor p)
 unfolding rungAt
 first-rung p e =
     let v = sym (factor-first scale (bondDivisor p)) in
-    let sum : firstFactor scale (bondDivisor p) ≡ annuity scale (bondDivisor p) 1 = sym (annuity-next scale (bondDivisor p) 0 ∙ omega (arith, annuity-none scale (bondDivisor p), factor-first scale (bondDivisor p))) in
+    let sum : firstFactor scale (bondDivisor p) ≡ annuity scale (bondDivisor p) 1 =
+    sym (annuity-next scale (bondDivisor p) 0 ∙ omega (arith, annuity-none scale (bondDivisor p), factor-first scale (bondDivisor p))) in
     rw (e, ← v, ← sum)
 
 -- a rung more

@@ -8,6 +8,7 @@ use Rattle.numbers.specs.Nearness.{Near}
 use Rattle.numbers.proofs.Rounding.{nearest-near}
 use Rattle.numbers.proofs.Nearness.{near-scale, near-cancel, near-add, near-as, near-then}
 use Rattle.numbers.proofs.Powers.{pow-one, one-pow, pow-both, pow-product}
+use Rattle.pricing.specs.Accuracy.{twiceDistance}
 use Rattle.pricing.specs.Ladder.{base, firstFactor, factor, annuity, bracket, wholeAnnuity, wholeBracket}
 use Rattle.pricing.proofs.Factors.{factor-first, factor-next, annuity-none, annuity-next, whole-none, whole-next, first-below}
 
@@ -105,7 +106,7 @@ module _ (D q r s : ℕ) (pos : 0 < D) (posq : 0 < q) (sr : s ≤ r) (hv : first
 -- q is 2,000,000 + Y. Over any scale D, for any n from 1, any coupon c and any yield Y from 0, the ladder's bracket
 -- lies within (c n² + 200 n − 100) / 2 units of the exact one, which is D * wholeBracket / q^n units.
 pub ladder-distance : (D c n q : ℕ) → 0 < D → 1 ≤ n → base ≤ q
-    → Near (2 * (bracket D c n q * q ^ n)) (2 * (D * wholeBracket c n q)) ((c * (n * n) + 200 * n - 100) * q ^ n)
+    → Near (2 * (bracket D c n q * q ^ n)) (2 * (D * wholeBracket c n q)) (twiceDistance c n * q ^ n)
 ladder-distance D c zero q hD h hq = absurd (omega arith)
 ladder-distance D c (suc k) q hD h hq =
     near-as (bracket-near D q 1 1 hD (omega arith) (omega arith) (omega (arith, first-below D q hq)) (omega arith) c k)

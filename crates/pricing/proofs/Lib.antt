@@ -6,6 +6,7 @@ pub mod Bounds
 pub mod Climbing
 pub mod Rise
 pub mod Answers
+pub mod Judging
 pub mod SideBySide
 pub mod Checking
 pub mod Refusals

@@ -1,9 +1,7 @@
 -- What is promised of one contract. Open this file first: each law is stated here in the terms of specs/, its argument stands in the file it cites.
-use mathlib.Core.Bool.{true}
-use mathlib.Core.List.{[], _∷_, map, List·Memᴰ}
-use mathlib.Core.Logic.{_↔_}
+use mathlib.Core.List.{[], _∷_, map}
 use mathlib.Core.Path.{_≡_, refl, sym, ap, _∙_}
-use Prim.Native.Nat.{ℕ, _+_, _*_, _-_, _%_, _^_, _≤_, _<_}
+use Prim.Native.Nat.{ℕ, suc, _+_, _*_, _-_, _%_, _^_, _≤_, _<_}
 use native.Mathlib.Nat.{add-mod-right}
 use native.Mathlib.Omega.{arith}
 use lib.Dec.{lit≤}
@@ -12,13 +10,15 @@ use Rattle.numbers.specs.Rounding.{nearest}
 use Rattle.numbers.specs.Nearness.{Near}
 use Rattle.numbers.specs.Fractions.{scaled, _minus_, _times_, Within, Same}
 use Rattle.numbers.proofs.Rounding.{nearest-scale, half-up}
-use Rattle.products.specs.Products.{priceLimit, products, sameCode, find, hasMonth, monthsOf}
+use Rattle.products.specs.Products.{priceLimit, YT, XT, XX, products, sameCode, find}
 use Rattle.pricing.specs.Prices.{yieldAt}
-use Rattle.pricing.specs.Ladder.{base, factor, bracket, exactBracket, wholeBracket}
-use Rattle.pricing.specs.Value.{scale, billDividend, billDivisor, bondDivisor, valueBy, exactBy, exactOf, valueCap, StepsFit}
+use Rattle.numbers.specs.Sums.{sumTo}
+use Rattle.pricing.specs.Ladder.{base, factor, annuity, bracket, exactBracket, wholeBracket}
+use Rattle.pricing.specs.Value.{scale, billDividend, billDivisor, bondDivisor, valueBy, exactBy, exactOf}
+use Rattle.pricing.specs.Sizes.{valueCap}
 use Rattle.pricing.specs.Calls.{given, valueOf, tickValueOf, bracketOf}
 use Rattle.pricing.specs.Conditions.{faultNumber, valueFaults, tickValueFaults, bracketFaults, Exactly}
-use Rattle.pricing.specs.Accuracy.{numberIn, bracketDistances, bracketDistanceOf, accuracyFigures, accuracyOf}
+use Rattle.pricing.specs.Accuracy.{twiceDistance, entry, numberIn, distancesIn, accuracyFigures, accuracyOf}
 use Rattle.products.specs.declared.table.Code.{Code}
 use Rattle.products.specs.declared.table.Product.{Product}
 use Rattle.products.specs.declared.table.Found.the-variants.{At}
@@ -27,40 +27,34 @@ use Rattle.products.specs.declared.table.Terms.the-variants.{Bill, Bond, CashRa
 use Rattle.pricing.proofs.Distance as distance
 use Rattle.pricing.proofs.Exact as exact
 use Rattle.pricing.proofs.Lines.{sound}
-use Rattle.products.proofs.Finding.{found-member, found-code}
-use Rattle.products.proofs.Months as months
-use Rattle.pricing.proofs.Bounds.{factor-cap, steps-fit-by, value-by-cap}
+use Rattle.pricing.proofs.Bounds.{factor-cap, value-by-cap}
 use Rattle.pricing.proofs.Rise.{value-by-rises}
 use Rattle.pricing.proofs.Answers.{valued, gives-value, tick-valued, exact-of}
 use Rattle.pricing.proofs.Accuracy.{product-accurate}
 use Rattle.pricing.proofs.Refusals as refusals
 use Rattle.pricing.proofs.Bonds.{bracketed, bracket-near}
 
--- ---- rounding and the table
+-- ---- rounding
 
 -- "Rounded" is to the nearest whole number, a half going up: the number r with r − 1/2 ≤ x / d < r + 1/2.
 pub rounded : (x d : ℕ) → 0 < d → (2 * (nearest x d * d) ≤ 2 * x + d) × (2 * x < 2 * (nearest x d * d) + d)
 rounded x d h = half-up x d h
 
--- The product that a code names is a line of the table with that code.
-pub found-line : (code : Code) {q : Product} → find code ≡ At q → List·Memᴰ q products × (q .code ≡ code)
-found-line code e = (found-member code e, found-code code e)
-
 -- ---- the ladder's distance
 
--- Over any scale D, for any n from 1, any half coupon c and any yield Y from 0, the ladder's bracket lies within (c n² + 200 n − 100) / 2 units
--- of the exact one. Both are multiplied by q^n, with q = 2,000,000 + Y, and doubled.
+-- Over any scale D, for any n from 1, any half coupon c and any yield Y from 0, the ladder's bracket lies within the distance of the exact one.
+-- Both are multiplied by q^n, with q = 2,000,000 + Y, and doubled.
 pub ladder-distance : (D c n Y : ℕ) → 0 < D → 1 ≤ n
-    → Near (2 * (bracket D c n (base + Y) * (base + Y) ^ n)) (2 * (D * wholeBracket c n (base + Y))) ((c * (n * n) + 200 * n - 100) * (base + Y) ^ n)
+    → Near (2 * (bracket D c n (base + Y) * (base + Y) ^ n)) (2 * (D * wholeBracket c n (base + Y))) (twiceDistance c n * (base + Y) ^ n)
 ladder-distance D c n Y hD hn = distance.ladder-distance D c n (base + Y) hD hn (omega arith)
 
 -- The exact bracket, c times (v + v² + .. + v^n) + 100 times v^n, is the whole number `wholeBracket` over q^n.
 pub exact-bracket : (c n Y : ℕ) → Same (exactBracket c n (base + Y)) (record { num = wholeBracket c n (base + Y); den = (base + Y) ^ n })
 exact-bracket c n Y = exact.bracket-whole (base + Y) (omega arith) c n
 
--- The bracket that is given for a bond of the table lies within 604, 2,550 or 5,550 units of the exact one, here times q^n.
+-- So does the bracket that is given for a bond of the table.
 pub bracket-distance : (code : Code) (p : ℕ) {b face c n : ℕ} {q : Product} → find code ≡ At q → q .terms ≡ Bond face c n → bracketOf code p ≡ given b
-    → Near (b * bondDivisor p ^ n) (scale * wholeBracket c n (bondDivisor p)) (bracketDistanceOf code * bondDivisor p ^ n)
+    → Near (2 * (b * bondDivisor p ^ n)) (2 * (scale * wholeBracket c n (bondDivisor p))) (twiceDistance c n * bondDivisor p ^ n)
 bracket-distance code p {c} {n} {q} f t e =
     let h = bracketed code p e in
     let g = h .found in
@@ -69,6 +63,11 @@ bracket-distance code p {c} {n} {q} f t e =
     let same-c : h .coupon ≡ c = cc in
     let same-n : h .halves ≡ n = cc in
     rw (same-c, same-n) at (bracket-near code p h)
+
+-- The distances of the table's bonds are 604, 2,550 and 5,550 units.
+pub distances-are : distancesIn products ≡ entry YT (2 * 604) ∷ entry XT (2 * 2_550) ∷ entry XX (2 * 5_550) ∷ []
+unfolding products distancesIn
+distances-are = refl
 
 -- ---- refusals
 
@@ -160,14 +159,10 @@ accurate code previous final e f lots =
     let same : k .product ≡ h .product = let g = h .found in let g' = k .found in cc in
     product-accurate code previous final (h .found) (h .listed) (rw (← same) (k .listed)) (h .is) (rw (← same) (k .is)) lots
 
--- The figures of the six products, whatever the prices, and the distances of their brackets.
+-- The figures of the six products, whatever the prices.
 pub figures-are : (previous final : ℕ) → map (λ q. accuracyOf (q .code) previous final) products ≡ 1_000 ∷ 1_000 ∷ 0 ∷ 2_208 ∷ 6_100 ∷ 6_550 ∷ []
 unfolding products accuracyOf accuracyFigures numberIn sameCode
 figures-are previous final = refl
-
-pub distances-are : map (λ q. bracketDistanceOf (q .code)) products ≡ 0 ∷ 0 ∷ 0 ∷ 604 ∷ 2_550 ∷ 5_550 ∷ []
-unfolding products bracketDistances numberIn sameCode
-distances-are = refl
 
 -- ---- sizes
 
@@ -176,34 +171,48 @@ pub factor-small : {p : ℕ} → p ≤ priceLimit → (k : ℕ) → factor scale
 unfolding scale
 factor-small h k = factor-cap h k
 
--- These products and sums on the way to a value of the table are within 64 bits. That no step of the code leaves them is proved with each function.
-pub steps-fit : (code : Code) (p : ℕ) {q : Product} → find code ≡ At q → p ≤ priceLimit → StepsFit (q .terms) p
-steps-fit code p {q} f h = steps-fit-by h (q .terms) (sound code (sym f) refl .terms)
-
 -- No value is above 500,000,000 cents.
 pub value-cap : (code : Code) (p : ℕ) {n : ℕ} → valueOf code p ≡ given n → n ≤ valueCap
 value-cap code p e =
     let h = valued code p e in
     rw (← (h .is)) (value-by-cap (h .listed .within) (h .product .terms) (sound code (sym (h .found)) refl .terms))
 
--- ---- the table and the formulas
+-- ---- the formulas in document 01's numbers
 
 -- A value is given for each code of the table at each price within the limit and on the tick.
 pub value-given : (code : Code) {q : Product} {p : ℕ} → find code ≡ At q → p ≤ priceLimit → p % q .tick ≡ 0 → valueOf code p ≡ given (valueBy (q .terms) p)
 value-given code {p = p} f l t = gives-value code p f (record { within = l; on-tick = t })
 
--- The test of a month says yes exactly for the product's months.
-pub month-exactly : (q : Product) (m : ℕ) → (hasMonth q m ≡ true) ↔ List·Memᴰ m (monthsOf q)
-month-exactly = months.month-exactly
-
--- A product's tick is positive.
-pub tick-positive : (code : Code) {q : Product} → find code ≡ At q → 0 < q .tick
-tick-positive code f = sound code (sym f) refl .tick
-
--- The bill formula with document 01's numbers: 3,650,000,000,000,000 divided by (36,500,000 + 9 times Y), rounded once.
+-- A bill: 3,650,000,000,000,000 divided by (36,500,000 + 9 times Y), rounded once.
 pub bill-formula : (p : ℕ) → valueBy (Bill 1_000_000 90) p ≡ nearest 3_650_000_000_000_000 (36_500_000 + 9 * yieldAt p)
 unfolding valueBy billDividend billDivisor
 bill-formula p = rw (e (yieldAt p)) (nearest-scale 10 3_650_000_000_000_000 (36_500_000 + 9 * yieldAt p) (lit≤ tt))
   where
     e : (y : ℕ) → 365_000_000 + 90 * y ≡ 10 * (36_500_000 + 9 * y)
     e y = omega arith
+
+-- A cash rate contract: 2,466 times p divided by 100, rounded.
+pub cash-formula : (p : ℕ) → valueBy (CashRate 2_466) p ≡ nearest (2_466 * p) 100
+unfolding valueBy
+cash-formula p = refl
+
+-- The ladder. V1 is 200,000,000,000,000 divided by (2,000,000 + Y), rounded.
+pub first-rung : (p : ℕ) → factor scale (bondDivisor p) 1 ≡ nearest 200_000_000_000_000 (2_000_000 + yieldAt p)
+unfolding factor scale bondDivisor
+first-rung p = refl
+
+-- Each later Vk is V(k−1) times V1 divided by 100,000,000, rounded.
+pub later-rung : (p k : ℕ)
+    → factor scale (bondDivisor p) (suc (suc k)) ≡ nearest (factor scale (bondDivisor p) (suc k) * factor scale (bondDivisor p) 1) 100_000_000
+unfolding factor scale
+later-rung p k = refl
+
+-- The bracket is c times (V1 + .. + Vn) plus 100 times Vn.
+pub bracket-formula : (c n p : ℕ) → bracket scale c n (bondDivisor p) ≡ c * sumTo n (factor scale (bondDivisor p)) + 100 * factor scale (bondDivisor p) n
+unfolding bracket annuity
+bracket-formula c n p = refl
+
+-- A bond: bracket times face divided by 100,000,000, rounded.
+pub bond-formula : (face c n p : ℕ) → valueBy (Bond face c n) p ≡ nearest (bracket scale c n (bondDivisor p) * face) 100_000_000
+unfolding valueBy scale
+bond-formula face c n p = refl

@@ -16,7 +16,7 @@ use Rattle.numbers.proofs.Order.{Finds, finds-whole, met-exactly, clear-exactly
 use Rattle.products.specs.Products.{priceLimit, find}
 use Rattle.pricing.specs.Ladder.{bracket}
 use Rattle.pricing.specs.Value.{scale, bondDivisor, valueBy}
-use Rattle.pricing.specs.Calls.{Answer, given, refused, check, ofProduct, ofBond, judged, after, valueOf, tickValueOf, bracketOf}
+use Rattle.pricing.specs.Calls.{Answer, given, refused, check, ofProduct, ofBond, atPrice, valueOf, tickValueOf, bracketOf}
 use Rattle.pricing.specs.Conditions.{Fault, NoProduct, NoBond, AboveLimit, OffTick, NextAboveLimit, faultNumber, Holds, valueFaults, tickValueFaults, bracketFaults, Exactly}
 use Rattle.products.specs.declared.table.Code.{Code}
 use Rattle.products.specs.declared.table.Product.{Product}
@@ -24,7 +24,6 @@ use Rattle.products.specs.declared.table.Found.{Found}
 use Rattle.products.specs.declared.table.Found.the-variants.{At, Missing}
 use Rattle.products.specs.declared.table.Terms.{Terms}
 use Rattle.products.specs.declared.table.Terms.the-variants.{Bill, Bond, CashRate}
-use Rattle.pricing.specs.declared.contract.Judged.the-variants.{Passed, Failed}
 use Rattle.products.proofs.Finding.{tells-unlisted, tells-product}
 
 -- ---- the tests, by what a lookup found
@@ -101,7 +100,7 @@ abbrev decide : Found → ℕ → List Fault → Decision
 decide f p = decision faultNumber (finding f p)
 
 -- checks 6 and 7, then what follows
-by-price : (b d : Bool) (a : Answer) (rest : Decision) → after (cond b (cond d Passed (Failed 7)) (Failed 6)) (answerBy rest a)
+by-price : (b d : Bool) (a : Answer) (rest : Decision) → check 6 b (check 7 d (answerBy rest a))
     ≡ answerBy (pick (cond (not b) (index.At 0) index.Nothing) 6 (pick (cond (not d) (index.At 0) index.Nothing) 7 rest)) a
 by-price true true a rest = refl
 by-price true false a rest = refl
@@ -129,30 +128,29 @@ abbrev bracketIn : ℕ → Found → ℕ
 bracketIn p (At q) = bracketBy p (q .terms)
 bracketIn p Missing = 0
 
-by-value : (f : Found) (p : ℕ) → ofProduct f (λ q. after (judged (q .tick) p) (given (valueBy (q .terms) p))) ≡ answerBy (decide f p valueFaults) (given (valueIn p f))
-unfolding judged
+by-value : (f : Found) (p : ℕ) → ofProduct f (λ q. atPrice (q .tick) p (given (valueBy (q .terms) p))) ≡ answerBy (decide f p valueFaults) (given (valueIn p f))
 by-value Missing p = refl
 by-value (At q) p = by-price (leb p priceLimit) (eqb (p % q .tick) 0) (given (valueBy (q .terms) p)) Unmet
 
 by-tick-value : (f : Found) (p : ℕ)
-    → ofProduct f (λ q. after (judged (q .tick) p) (check 15 (leb (p + q .tick) priceLimit) (given (valueBy (q .terms) (p + q .tick) - valueBy (q .terms) p))))
+    → ofProduct f (λ q. atPrice (q .tick) p (check 15 (leb (p + q .tick) priceLimit) (given (valueBy (q .terms) (p + q .tick) - valueBy (q .terms) p))))
     ≡ answerBy (decide f p tickValueFaults) (given (tickValueIn p f))
-unfolding judged
 by-tick-value Missing p = refl
 by-tick-value (At q) p =
     let a = given (valueBy (q .terms) (p + q .tick) - valueBy (q .terms) p) in
-    ap (after (judged (q .tick) p)) (by-next (leb (p + q .tick) priceLimit) a)
+    ap (atPrice (q .tick) p) (by-next (leb (p + q .tick) priceLimit) a)
     ∙ by-price (leb p priceLimit) (eqb (p % q .tick) 0) a (pick (cond (not (leb (p + q .tick) priceLimit)) (index.At 0) index.Nothing) 15 Unmet)
 
 by-bracket : (f : Found) (p : ℕ)
-    → ofProduct f (λ q. ofBond (q .terms) (λ c n. after (judged (q .tick) p) (given (bracket scale c n (bondDivisor p)))))
+    → ofProduct f (λ q. ofBond (q .terms) (λ c n. atPrice (q .tick) p (given (bracket scale c n (bondDivisor p)))))
     ≡ answerBy (decide f p bracketFaults) (given (bracketIn p f))
-unfolding judged
 by-bracket Missing p = refl
 by-bracket (At q) p = by-terms (q .terms)
   where
-    by-terms : (t : Terms) → ofBond t (λ c n. after (judged (q .tick) p) (given (bracket scale c n (bondDivisor p))))
-        ≡ answerBy (pick (cond (not (isBond t)) (index.At 0) index.Nothing) 4 (pick (cond (not (leb p priceLimit)) (index.At 0) index.Nothing) 6 (pick (cond (not (eqb (p % q .tick) 0)) (index.At 0) index.Nothing) 7 Unmet))) (given (bracketBy p t))
+    by-terms : (t : Terms) → ofBond t (λ c n. atPrice (q .tick) p (given (bracket scale c n (bondDivisor p))))
+        ≡ answerBy (pick (cond (not (isBond t)) (index.At 0) index.Nothing) 4
+        (pick (cond (not (leb p priceLimit)) (index.At 0) index.Nothing) 6
+        (pick (cond (not (eqb (p % q .tick) 0)) (index.At 0) index.Nothing) 7 Unmet))) (given (bracketBy p t))
     by-terms (Bill face days) = refl
     by-terms (CashRate cents) = refl
     by-terms (Bond face c n) = by-price (leb p priceLimit) (eqb (p % q .tick) 0) (given (bracket scale c n (bondDivisor p))) Unmet

@@ -10,9 +10,10 @@ use Rattle.numbers.proofs.Truth.{not-both}
 use Rattle.numbers.proofs.Searches.{some-clear}
 use Rattle.numbers.proofs.Held.{holds-all, holds-table, table-holds}
 use Rattle.products.specs.Products.{find}
-use Rattle.pricing.specs.Value.{scale, valueBy, Modest}
-use Rattle.pricing.specs.Calls.{lanes, given, after, judged, orZero, valueOf, worthsOf}
-use Rattle.pricing.specs.Steps.{isFailed, ifPassed}
+use Rattle.pricing.specs.Value.{scale, valueBy}
+use Rattle.pricing.specs.Sizes.{Modest}
+use Rattle.pricing.specs.Calls.{lanes, given, atPrice, orZero, valueOf, worthsOf}
+use Rattle.pricing.specs.Steps.{judged, isFailed, ifPassed}
 use Rattle.pricing.specs.Rungs.{rungAt, nextOf, Low, noRung, AllLow, Within}
 use Rattle.products.specs.declared.table.Code.{Code}
 use Rattle.products.specs.declared.table.Product.{Product}
@@ -23,7 +24,7 @@ use Rattle.products.specs.declared.table.Terms.the-variants.{Bond}
 use Rattle.pricing.specs.declared.contract.Judged.{Judged}
 use Rattle.pricing.specs.declared.contract.Judged.the-variants.{Passed, Failed}
 use Rattle.pricing.specs.declared.ladder.Rung.{Rung}
-use Rattle.pricing.proofs.Answers.{passed}
+use Rattle.pricing.proofs.Judging.{after, as-judged, passed}
 use Rattle.pricing.proofs.Climbing.{next-rung, rung-low, rung-bracket, face-low}
 
 -- the ladders at k
@@ -69,16 +70,19 @@ module _ (tick : ℕ) (p : List ℕ) {r : Bool} (is : r ≡ some (λ i. isFailed
   all-worth t b = record { entry = λ i g. b .entry i g ∙ rw (passes i g) }
 
 -- a value by the product's terms is the call's
-pub worth-by-judged : (t : Terms) (p : ℕ) (j : Judged) → ifPassed j (valueBy t p) ≡ orZero (after j (given (valueBy t p)))
-worth-by-judged t p Passed = refl
-worth-by-judged t p (Failed k) = refl
+pub worth-by-judged : (t : Terms) (tick p : ℕ) → ifPassed (judged tick p) (valueBy t p) ≡ orZero (atPrice tick p (given (valueBy t p)))
+worth-by-judged t tick p = by-judged (judged tick p) ∙ ap orZero (as-judged tick p (given (valueBy t p)))
+  where
+    by-judged : (j : Judged) → ifPassed j (valueBy t p) ≡ orZero (after j (given (valueBy t p)))
+    by-judged Passed = refl
+    by-judged (Failed k) = refl
 
 module _ (code : Code) (p : List ℕ) {o : Found} (is : o ≡ find code) where
   pub worths-are : (q : Product) {w : List ℕ} → o ≡ At q → length w ≡ lanes → Holds 0 (λ i. ifPassed (judged (q .tick) (getD p i 0)) (valueBy (q .terms) (getD p i 0))) lanes w
       → w ≡ worthsOf code p
   unfolding valueOf worthsOf
   worths-are q e n a =
-      holds-table {f = λ i. orZero (valueOf code (getD p i 0))} n (record { entry = λ i g. a .entry i g ∙ rw (← is, e) (worth-by-judged (q .terms) (getD p i 0) (judged (q .tick) (getD p i 0))) })
+      holds-table {f = λ i. orZero (valueOf code (getD p i 0))} n (record { entry = λ i g. a .entry i g ∙ rw (← is, e) (worth-by-judged (q .terms) (q .tick) (getD p i 0)) })
 
   pub no-worths : o ≡ Missing → replicate lanes 0 ≡ worthsOf code p
   unfolding valueOf worthsOf

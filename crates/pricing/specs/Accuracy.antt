@@ -1,9 +1,16 @@
--- The distances that document 01 names, by product.
-use Prim.Native.Nat.{ℕ}
-use mathlib.Core.List.{List, [], _∷_}
+-- The distances that document 01 names: of a bond's bracket, and of the amount for each lot.
+use Prim.Native.Nat.{ℕ, _+_, _*_, _-_}
+use mathlib.Core.List.{List, [], _∷_, _++_}
 use mathlib.Core.Bool.{cond}
 use Rattle.products.specs.Products.{IR, BB, IB, YT, XT, XX, sameCode}
 use Rattle.products.specs.declared.table.Code.{Code}
+use Rattle.products.specs.declared.table.Product.{Product}
+use Rattle.products.specs.declared.table.Terms.{Terms}
+use Rattle.products.specs.declared.table.Terms.the-variants.{Bill, Bond, CashRate}
+
+-- How far the ladder's bracket may lie from the exact one: (c n² + 200 n − 100) / 2 units of the ladder. This is twice that, and whole.
+abbrev pub twiceDistance : ℕ → ℕ → ℕ
+twiceDistance c n = c * (n * n) + 200 * n - 100
 
 -- a number for each of some codes
 pub record Entry : Type 0 where
@@ -18,12 +25,15 @@ unfoldable pub numberIn : List Entry → Code → ℕ
 numberIn [] a = 0
 numberIn (e ∷ es) a = cond (sameCode a (e .code)) (e .number) (numberIn es a)
 
--- how far the ladder's bracket may lie from the exact one, in units of the ladder
-unfoldable pub bracketDistances : List Entry
-bracketDistances = entry YT 604 ∷ entry XT 2_550 ∷ entry XX 5_550 ∷ []
+-- twice the distance of each bond of a table
+abbrev pub distanceBy : Code → Terms → List Entry
+distanceBy code (Bill face days) = []
+distanceBy code (Bond face c n) = entry code (twiceDistance c n) ∷ []
+distanceBy code (CashRate cents) = []
 
-abbrev pub bracketDistanceOf : Code → ℕ
-bracketDistanceOf code = numberIn bracketDistances code
+unfoldable pub distancesIn : List Product → List Entry
+distancesIn [] = []
+distancesIn (q ∷ qs) = distanceBy (q .code) (q .terms) ++ distancesIn qs
 
 -- the accuracy figures, in thousandths of a cent for each lot
 unfoldable pub accuracyFigures : List Entry

@@ -14,8 +14,6 @@ use Rattle.products.specs.declared.table.Terms.{Terms}
 use Rattle.products.specs.declared.table.Terms.the-variants.{Bill, Bond, CashRate}
 use Rattle.products.specs.declared.table.Found.{Found}
 use Rattle.products.specs.declared.table.Found.the-variants.{At, Missing}
-use Rattle.pricing.specs.declared.contract.Judged.{Judged}
-use Rattle.pricing.specs.declared.contract.Judged.the-variants.{Passed, Failed}
 use Rattle.pricing.specs.declared.contract.Priced.{Priced}
 use Rattle.pricing.specs.declared.contract.Priced.the-variants as priced
 
@@ -38,14 +36,9 @@ abbrev pub ofProduct : Found → (Product → Answer) → Answer
 ofProduct (At q) f = f q
 ofProduct Missing f = refused 4 0
 
--- checks 6 and 7 of a price
-unfoldable pub judged : ℕ → ℕ → Judged
-judged tick p = cond (leb p priceLimit) (cond (eqb (p % tick) 0) Passed (Failed 7)) (Failed 6)
-
--- the answer a to a price that passes
-abbrev pub after : Judged → Answer → Answer
-after Passed a = a
-after (Failed k) a = refused k 0
+-- checks 6 and 7 of a price, then the answer a
+abbrev pub atPrice : ℕ → ℕ → Answer → Answer
+atPrice tick p a = check 6 (leb p priceLimit) (check 7 (eqb (p % tick) 0) a)
 
 -- the number of an answer, 0 where the call is refused
 abbrev pub orZero : Answer → ℕ
@@ -54,7 +47,7 @@ orZero (refused k i) = 0
 
 -- the value of one contract in cents
 unfoldable pub valueOf : Code → ℕ → Answer
-valueOf code p = ofProduct (find code) (λ q. after (judged (q .tick) p) (given (valueBy (q .terms) p)))
+valueOf code p = ofProduct (find code) (λ q. atPrice (q .tick) p (given (valueBy (q .terms) p)))
 
 -- how many prices are asked for at once
 abbrev pub lanes : ℕ
@@ -68,7 +61,7 @@ worthsOf code p = table (λ i. orZero (valueOf code (getD p i 0))) lanes
 unfoldable pub tickValueOf : Code → ℕ → Answer
 tickValueOf code p =
     ofProduct (find code)
-    (λ q. after (judged (q .tick) p)
+    (λ q. atPrice (q .tick) p
     (check 15 (leb (p + q .tick) priceLimit) (given (valueBy (q .terms) (p + q .tick) - valueBy (q .terms) p))))
 
 -- the answer of a bond's half coupon and half years; other terms are refused with 4
@@ -80,4 +73,4 @@ ofBond (CashRate cents) f = refused 4 0
 -- a bond's bracket, in units of the ladder
 unfoldable pub bracketOf : Code → ℕ → Answer
 bracketOf code p =
-    ofProduct (find code) (λ q. ofBond (q .terms) (λ c n. after (judged (q .tick) p) (given (bracket scale c n (bondDivisor p)))))
+    ofProduct (find code) (λ q. ofBond (q .terms) (λ c n. atPrice (q .tick) p (given (bracket scale c n (bondDivisor p)))))

@@ -48,7 +48,8 @@ tickValueFaults = NoProduct ∷ AboveLimit ∷ OffTick ∷ NextAboveLimit ∷ []
 abbrev pub bracketFaults : List Fault
 bracketFaults = NoBond ∷ AboveLimit ∷ OffTick ∷ []
 
--- An answer is the refusal k at i exactly where condition k is the first of its checks that holds, at i, and a number exactly where none holds.
+-- An answer is the refusal k at i exactly where condition k is the first of its checks that holds, at i;
+-- and a number exactly where none holds.
 pub record Exactly (code : Code) (p : ℕ) (faults : List Fault) (answer : Answer) : Type 0 where
   pub turned : (k i : ℕ) → (answer ≡ refused k i) ↔ Decides faultNumber (Holds code p) faults k i
   pub answers : ((n : ℕ) × (answer ≡ given n)) ↔ Clear (Holds code p) faults

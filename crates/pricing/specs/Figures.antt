@@ -4,13 +4,12 @@ use mathlib.Core.Path.{_≡_, refl}
 use mathlib.Core.List.{List, [], _∷_, map}
 use Rattle.numbers.specs.Rounding.{nearest}
 use Rattle.numbers.specs.Sums.{sumTo}
-use Rattle.products.specs.Products.{priceLimit, IR, BB, IB, YT, XT, XX, products, sameCode, findIn, find, currencyOf, hasMonth, monthsBelow, monthsOf}
+use Rattle.products.specs.Products.{priceLimit, IR, BB, IB, YT, XT, XX, products, sameCode, findIn, find}
 use Rattle.pricing.specs.Prices.{par, yieldAt}
 use Rattle.pricing.specs.Ladder.{factor, annuity, bracket}
 use Rattle.pricing.specs.Value.{scale, billDividend, billDivisor, bondDivisor, valueBy}
-use Rattle.pricing.specs.Calls.{Answer, given, refused, judged, valueOf, tickValueOf, bracketOf}
+use Rattle.pricing.specs.Calls.{Answer, given, refused, valueOf, tickValueOf, bracketOf}
 use Rattle.products.specs.declared.table.Code.{Code}
-use Rattle.products.specs.declared.table.Currency.the-variants.{Aud, Nzd}
 
 -- what is asked at a price: a value, a tick value, a bracket, or the ladder's Vk
 pub data Question : Type 0 where
@@ -58,11 +57,6 @@ figures =
     ∷ (valueAt IR 1_000_001 gives refused 6 0)
     ∷ []
 
--- the definitions give each figure
-pub figures-hold : map (λ f. answerTo (f .question)) figures ≡ map (λ f. f .answer) figures
-unfolding figures answerTo nearest sumTo par priceLimit yieldAt products sameCode findIn find factor annuity bracket scale billDividend billDivisor bondDivisor valueBy judged valueOf tickValueOf bracketOf
-figures-hold = refl
-
 -- Figures that document 01 does not mark, worked by the calculator: a longer ladder, each product's tick, and the order of the checks.
 unfoldable pub further : List Figure
 further =
@@ -79,17 +73,11 @@ further =
     ∷ (bracketAt IR 1_000_001 gives refused 4 0)
     ∷ []
 
-pub further-hold : map (λ f. answerTo (f .question)) further ≡ map (λ f. f .answer) further
-unfolding further answerTo nearest sumTo par priceLimit yieldAt products sameCode findIn find factor annuity bracket scale billDividend billDivisor bondDivisor valueBy judged valueOf tickValueOf bracketOf
-further-hold = refl
+-- the definitions give each figure
+abbrev pub Given : List Figure → Type 0
+Given fs = map (λ f. answerTo (f .question)) fs ≡ map (λ f. f .answer) fs
 
--- the currencies of the six lines
-pub currencies-hold : map (λ q. currencyOf (q .code)) products ≡ Aud ∷ Nzd ∷ Aud ∷ Aud ∷ Aud ∷ Aud ∷ []
-unfolding products sameCode findIn find currencyOf
-currencies-hold = refl
-
--- the months of the six lines
-pub months-hold : map monthsOf products ≡ (3 ∷ 6 ∷ 9 ∷ 12 ∷ []) ∷ (3 ∷ 6 ∷ 9 ∷ 12 ∷ []) ∷ (1 ∷ 2 ∷ 3 ∷ 4 ∷ 5 ∷ 6 ∷ 7 ∷ 8 ∷ 9 ∷ 10 ∷ 11 ∷ 12 ∷ [])
-    ∷ (3 ∷ 6 ∷ 9 ∷ 12 ∷ []) ∷ (3 ∷ 6 ∷ 9 ∷ 12 ∷ []) ∷ (3 ∷ 6 ∷ 9 ∷ 12 ∷ []) ∷ []
-unfolding monthsBelow products hasMonth
-months-hold = refl
+pub figures-hold : Given figures × Given further
+unfolding figures further answerTo nearest sumTo par priceLimit yieldAt products sameCode findIn find factor annuity bracket scale
+    billDividend billDivisor bondDivisor valueBy valueOf tickValueOf bracketOf
+figures-hold = (refl, refl)

@@ -6,4 +6,5 @@ pub mod Rungs
 pub mod Conditions
 pub mod Accuracy
 pub mod Figures
+pub mod Sizes
 pub mod Steps

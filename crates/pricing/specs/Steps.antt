@@ -1,8 +1,9 @@
--- Checks 4, 6 and 7 by themselves, and what they leave of a number. No caller of the crate sees these.
-use Prim.Native.Nat.{ℕ}
-use mathlib.Core.Bool.{Bool, true, false}
-use Rattle.products.specs.Products.{find}
-use Rattle.pricing.specs.Calls.{Answer, refused, judged}
+-- Checks 4, 6 and 7 as the code decides them, before it works a number. No caller of the crate sees these.
+use Prim.Native.Nat.{ℕ, _%_}
+use mathlib.Core.Bool.{Bool, true, false, cond}
+use lib.Dec.{leb, eqb}
+use Rattle.products.specs.Products.{priceLimit, find}
+use Rattle.pricing.specs.Calls.{Answer, refused}
 use Rattle.products.specs.declared.table.Code.{Code}
 use Rattle.products.specs.declared.table.Product.{Product}
 use Rattle.products.specs.declared.table.Terms.{Terms}
@@ -12,6 +13,10 @@ use Rattle.pricing.specs.declared.contract.Judged.{Judged}
 use Rattle.pricing.specs.declared.contract.Judged.the-variants.{Passed, Failed}
 use Rattle.pricing.specs.declared.contract.Checked.{Checked}
 use Rattle.pricing.specs.declared.contract.Checked.the-variants as checked
+
+-- checks 6 and 7 of a price
+unfoldable pub judged : ℕ → ℕ → Judged
+judged tick p = cond (leb p priceLimit) (cond (eqb (p % tick) 0) Passed (Failed 7)) (Failed 6)
 
 -- checks 6 and 7 of a price of the product
 abbrev pub judgedProduct : Product → Judged → Checked

@@ -1,10 +1,10 @@
 -- The value of one contract in cents, rounded as document 01 says, and exactly.
-use Prim.Native.Nat.{ℕ, _+_, _*_, _^_, _≤_, _<_}
+use Prim.Native.Nat.{ℕ, _+_, _*_, _^_}
 use Rattle.numbers.specs.Rounding.{nearest}
 use Rattle.numbers.specs.Fractions.{Fraction, wholly}
 use Rattle.pricing.specs.Prices.{yieldAt, hundredPercent}
 use Rattle.products.specs.Products.{find}
-use Rattle.pricing.specs.Ladder.{base, firstFactor, factor, bracket, wholeBracket}
+use Rattle.pricing.specs.Ladder.{base, bracket, wholeBracket}
 use Rattle.products.specs.declared.table.Code.{Code}
 use Rattle.products.specs.declared.table.Found.{Found}
 use Rattle.products.specs.declared.table.Found.the-variants.{At, Missing}
@@ -45,19 +45,3 @@ exactIn Missing p = wholly 0
 -- the exact value of the product that a code names
 unfoldable pub exactOf : Code → ℕ → Fraction
 exactOf code p = exactIn (find code) p
-
--- no value is above this, in cents (proofs/Promises.antt, value-cap)
-abbrev pub valueCap : ℕ
-valueCap = 500_000_000
-
--- terms small enough that no step of a value leaves 64 bits
-abbrev pub Modest : Terms → Type 0
-Modest (Bill face days) = (face ≤ 1_000_000) × (days ≤ 100)
-Modest (Bond face c n) = (face ≤ 100_000) × (c ≤ 3) × (1 ≤ n) × (n ≤ 40)
-Modest (CashRate cents) = cents ≤ 10_000
-
--- no result of a multiplication on the way to a value, and no divisor, leaves 63 bits
-abbrev pub StepsFit : Terms → ℕ → Type 0
-StepsFit (Bill face days) p = (billDividend face < 2 ^ 63) × (billDivisor days p < 2 ^ 63)
-StepsFit (Bond face c n) p = ((k : ℕ) → factor scale (bondDivisor p) k * firstFactor scale (bondDivisor p) < 2 ^ 63) × (bracket scale c n (bondDivisor p) * face < 2 ^ 63)
-StepsFit (CashRate cents) p = cents * p < 2 ^ 63

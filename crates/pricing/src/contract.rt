@@ -2,9 +2,10 @@
 ghost use mathlib.Core.Path.{_≡_};
 ghost use Prim.Native.Nat.{_<_};
 ghost use Rattle.pricing.specs.Ladder.{bracket};
-ghost use Rattle.pricing.specs.Value.{scale, bondDivisor, valueBy, Modest};
-ghost use Rattle.pricing.specs.Calls.{given, said, judged, after, ofBond, valueOf, tickValueOf, bracketOf};
-ghost use Rattle.pricing.specs.Steps.{checkOf};
+ghost use Rattle.pricing.specs.Value.{scale, bondDivisor, valueBy};
+ghost use Rattle.pricing.specs.Sizes.{Modest};
+ghost use Rattle.pricing.specs.Calls.{given, said, atPrice, ofBond, valueOf, tickValueOf, bracketOf};
+ghost use Rattle.pricing.specs.Steps.{judged, checkOf};
 use crate::ladder::bracket_at;
 use crate::values::bill_at;
 use crate::values::bond_at;
@@ -20,13 +21,13 @@ use products::off_tick;
 // The number asked for, or the number of the check that turns the call away.
 pub enum Priced {
     Given(u64),
-    Refused(u8),
+    Refused(u32),
 }
 
 // Whether a price passes checks 6 and 7, or the number of the first that it fails.
 pub enum Judged {
     Passed,
-    Failed(u8),
+    Failed(u32),
 }
 
 pub(crate) fn judge(tick: u32, p: u32) -> Judged
@@ -44,7 +45,7 @@ pub(crate) fn judge(tick: u32, p: u32) -> Judged
 // The terms and the tick of the product at a price that passes checks 4, 6 and 7, or the number of the first that fails.
 enum Checked {
     Product { terms: Terms, tick: u32 },
-    Refused(u8),
+    Refused(u32),
 }
 
 fn check(code: Code, p: u32) -> Checked
@@ -68,7 +69,7 @@ fn check(code: Code, p: u32) -> Checked
 // The value by the terms, after checks 6 and 7. The terms come first, so that each kind's constants are known where its formula is worked.
 fn value_by(t: Terms, tick: u32, p: u32) -> Priced
     requires { ⌜ Modest t ⌝ }
-    ensures { λ r. ⌜ said r ≡ after (judged tick p) (given (valueBy t p)) ⌝ }
+    ensures { λ r. ⌜ said r ≡ atPrice tick p (given (valueBy t p)) ⌝ }
 {
     match t {
         Terms::Bill { face, days } => match judge(tick, p) {
@@ -123,7 +124,7 @@ pub fn tick_value(code: Code, p: u32) -> Priced
 // A bond's bracket, after checks 6 and 7. Other terms are refused with 4.
 fn bracket_by(t: Terms, tick: u32, p: u32) -> Priced
     requires { ⌜ Modest t × (0 < tick) ⌝ }
-    ensures { λ r. ⌜ said r ≡ ofBond t (λ c n. after (judged tick p) (given (bracket scale c n (bondDivisor p)))) ⌝ }
+    ensures { λ r. ⌜ said r ≡ ofBond t (λ c n. atPrice tick p (given (bracket scale c n (bondDivisor p)))) ⌝ }
 {
     match t {
         Terms::Bond {

@@ -2,7 +2,8 @@
 ghost use Prim.Native.Nat.{_≤_};
 ghost use lib.ListN.{getD};
 ghost use Rattle.numbers.specs.Folds.{Holds};
-ghost use Rattle.pricing.specs.Value.{Modest, valueBy};
+ghost use Rattle.pricing.specs.Value.{valueBy};
+ghost use Rattle.pricing.specs.Sizes.{Modest};
 ghost use Rattle.pricing.specs.Calls.{lanes};
 ghost use Rattle.pricing.specs.Rungs.{rungAt, nextOf, noRung, AllLow, Within};
 use crate::ladder::Rung;

@@ -2,7 +2,8 @@
 ghost use mathlib.Core.Path.{_≡_};
 ghost use Prim.Native.Nat.{_≤_};
 ghost use Rattle.products.specs.Products.{priceLimit};
-ghost use Rattle.pricing.specs.Value.{Modest, valueBy};
+ghost use Rattle.pricing.specs.Value.{valueBy};
+ghost use Rattle.pricing.specs.Sizes.{Modest};
 use crate::ladder::PAR;
 use crate::ladder::Two;
 use crate::ladder::bracket_at;

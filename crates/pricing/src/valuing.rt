@@ -2,9 +2,10 @@
 ghost use mathlib.Core.Path.{_≡_};
 ghost use lib.ListN.{getD};
 ghost use Rattle.numbers.specs.Folds.{some, Holds};
-ghost use Rattle.pricing.specs.Value.{Modest, valueBy};
-ghost use Rattle.pricing.specs.Calls.{lanes, judged, orZero, valueOf, worthsOf};
-ghost use Rattle.pricing.specs.Steps.{isFailed, ifPassed};
+ghost use Rattle.pricing.specs.Value.{valueBy};
+ghost use Rattle.pricing.specs.Sizes.{Modest};
+ghost use Rattle.pricing.specs.Calls.{lanes, orZero, valueOf, worthsOf};
+ghost use Rattle.pricing.specs.Steps.{judged, isFailed, ifPassed};
 use crate::contract::Judged;
 use crate::contract::judge;
 use crate::lanes::LANES;

@@ -1,3 +1,4 @@
 pub mod Finding
 pub mod Months
+pub mod Listing
 pub mod ByCode

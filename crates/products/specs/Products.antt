@@ -47,7 +47,8 @@ XT = (88, 84)
 abbrev pub XX : Code
 XX = (88, 88)
 
--- the six lines: a bill has its face and its days; a bond its face, half coupon c and half years n; a cash rate contract its cents for each 0.01
+-- the six lines: a bill has its face and its days; a bond its face, half coupon c and half years n;
+-- a cash rate contract its cents for each 0.01
 unfoldable pub products : List Product
 products =
     record { code = IR; terms = Bill 1_000_000 90; currency = Aud; tick = 100; months = quarterly }

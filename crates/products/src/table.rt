@@ -180,8 +180,8 @@ pub fn is_bond(code: Code) -> bool
     }
 }
 
-// Whether a price is not a multiple of a tick. The table's ticks, 50 and 100, are constants here: the compiler divides by a constant without a
-// division, which would take several times as long.
+// Whether a price is not a multiple of a tick. The table's ticks, 50 and 100, are constants here: the compiler divides by a constant
+// without a division, which would take several times as long.
 pub fn off_tick(p: u32, tick: u32) -> bool
     ensures { λ r. ⌜ r ≡ not (eqb (p % tick) 0) ⌝ }
 {

@@ -58,7 +58,9 @@ module _ (s : List ℕ) (b : Bytes s) (d : DayFile) (laid : LaidOut s d) (passed
 
   amount-in : (i : ℕ) → i < length (l .positions) → natAbs (amountOf (l .positions) (changeIn l) i) ≤ amountCap
   unfolding l amountOf
-  amount-in i h = product-small (positionAt (l .positions) i .lots) (changeIn l (positionAt (l .positions) i .mark)) (lots-in l passed i h) (change-bound (l .marks) _ (positionAt (l .positions) i .mark))
+  amount-in i h =
+      product-small (positionAt (l .positions) i .lots) (changeIn l (positionAt (l .positions) i .mark))
+      (lots-in l passed i h) (change-bound (l .marks) _ (positionAt (l .positions) i .mark))
 
   line-in : (i : ℕ) → i < length (l .positions) → length (lineAt (l .marks) (l .positions) (amountOf (l .positions) (changeIn l)) i) ≤ lineSize
   unfolding l
@@ -71,7 +73,11 @@ module _ (s : List ℕ) (b : Bytes s) (d : DayFile) (laid : LaidOut s d) (passed
   unfolding l shareOf
   total-in c =
       rw (total-is (l .marks) (l .positions) (changeIn l) c (λ i h. mark-in l passed i h))
-      (omega (arith, sum-small (shareOf (l .marks) (l .positions) (changeIn l) c) (length (l .positions)) (λ i h. le-trans (keep-small c _ (amountOf (l .positions) (changeIn l) i)) (amount-in i h)), small s d (laid .limited) .positions))
+      (omega (
+        arith,
+        sum-small (shareOf (l .marks) (l .positions) (changeIn l) c) (length (l .positions)) (λ i h. le-trans (keep-small c _ (amountOf (l .positions) (changeIn l) i)) (amount-in i h)),
+        small s d (laid .limited) .positions,
+      ))
 
   accepted-length : length (positionsText (accept l) ++ answerText (totals l)) ≤ sheetSize
   unfolding l positionsText answerText
@@ -79,7 +85,12 @@ module _ (s : List ℕ) (b : Bytes s) (d : DayFile) (laid : LaidOut s d) (passed
       let total : Currency → ℤ = totalOf (l .marks) (l .positions) (changeIn l) in
       let k : resentOf (l .corrections) < 10 ^ 20 = omega (arith, resent-small (l .corrections), small s d (laid .limited) .corrections) in
       rw length-append
-      (omega (arith, texts-length (lineAt (l .marks) (l .positions) (amountOf (l .positions) (changeIn l))) (length (l .positions)) lineSize line-in, small s d (laid .limited) .positions, totals-length (total Aud) (total Nzd) (resentOf (l .corrections)) (total-in Aud) (total-in Nzd) k))
+      (omega (
+        arith,
+        texts-length (lineAt (l .marks) (l .positions) (amountOf (l .positions) (changeIn l))) (length (l .positions)) lineSize line-in,
+        small s d (laid .limited) .positions,
+        totals-length (total Aud) (total Nzd) (resentOf (l .corrections)) (total-in Aud) (total-in Nzd) k,
+      ))
 
 -- ---- a file that is refused
 

@@ -53,7 +53,14 @@ pub line-length : (account : ℕ) (m : Mark) (amount : ℤ) → account < 429496
 unfolding positionLine
 line-length account m amount a b c d =
     simp length-append
-    (omega (arith, letters-length (currencyOf (m .code)), decimal-length 9 account (omega arith), decimal-length 2 (m .month) (omega arith), decimal-length 2 (m .year) (omega arith), signed-length 18 amount d))
+    (omega (
+      arith,
+      letters-length (currencyOf (m .code)),
+      decimal-length 9 account (omega arith),
+      decimal-length 2 (m .month) (omega arith),
+      decimal-length 2 (m .year) (omega arith),
+      signed-length 18 amount d,
+    ))
 
 pub totals-length : (aud nzd : ℤ) (k : ℕ) → natAbs aud < 10 ^ 19 → natAbs nzd < 10 ^ 19 → k < 10 ^ 20 → length (totalsText aud nzd k) ≤ answerSize
 unfolding totalLine resentLine

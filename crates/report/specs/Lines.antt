@@ -45,7 +45,8 @@ lettersOf Nzd = NZD
 unfoldable pub positionLine : ℕ → Mark → ℤ → List ℕ
 positionLine account m amount =
     line
-    (decimal account ∷ (m .code .0 ∷ m .code .1 ∷ []) ∷ decimal (m .month) ∷ decimal (m .year) ∷ signedDecimal amount ∷ lettersOf (currencyOf (m .code)) ∷ [])
+    (decimal account ∷ (m .code .0 ∷ m .code .1 ∷ []) ∷ decimal (m .month) ∷ decimal (m .year)
+    ∷ signedDecimal amount ∷ lettersOf (currencyOf (m .code)) ∷ [])
 
 -- the line of the position with index i; `amount` gives each position's amount
 abbrev pub lineAt : List Mark → List Position → (ℕ → ℤ) → ℕ → List ℕ

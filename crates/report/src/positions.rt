@@ -41,8 +41,10 @@ fn write_position(
     i: usize,
     out: &mut [u8],
 ) -> usize
-    requires { ⌜ (now pairs ≡ digitPairs) × (i < length (now amounts)) × Words (now words) (16 * positionAt (positionsIn (now positions)) i .mark) ⌝ }
-    ensures { λ r. ⌜ Writes (lineFrom (now (words .entry)) (positionsIn (now (positions .entry))) (entryOf (now (amounts .entry))) i) r (now (out .entry)) (now (out .exit)) ⌝ }
+    requires { ⌜ (now pairs ≡ digitPairs) × (i < length (now amounts))
+        × Words (now words) (16 * positionAt (positionsIn (now positions)) i .mark) ⌝ }
+    ensures { λ r. ⌜ Writes (lineFrom (now (words .entry)) (positionsIn (now (positions .entry))) (entryOf (now (amounts .entry))) i)
+        r (now (out .entry)) (now (out .exit)) ⌝ }
 {
     let p = position_at(positions, i);
     write_line(
@@ -64,8 +66,11 @@ pub(crate) fn write_positions(
     n: usize,
     out: &mut [u8],
 ) -> usize
-    requires { ⌜ (now pairs ≡ digitPairs) × (n ≤ length (now amounts)) × (length (marksIn (now marks)) ≤ fileLimits .marks) × Named (marksIn (now marks)) (positionsIn (now positions)) n ⌝ }
-    ensures { λ r. ⌜ Writes (texts (lineAt (marksIn (now (marks .entry))) (positionsIn (now (positions .entry))) (entryOf (now (amounts .entry)))) n) r (now (out .entry)) (now (out .exit)) ⌝ }
+    requires { ⌜ (now pairs ≡ digitPairs) × (n ≤ length (now amounts))
+        × (length (marksIn (now marks)) ≤ fileLimits .marks) × Named (marksIn (now marks)) (positionsIn (now positions)) n ⌝ }
+    ensures { λ r. ⌜ Writes
+        (texts (lineAt (marksIn (now (marks .entry))) (positionsIn (now (positions .entry))) (entryOf (now (amounts .entry)))) n)
+        r (now (out .entry)) (now (out .exit)) ⌝ }
 {
     let mut words = [0u8; WORDS_SIZE * DayFile::MAX_MARKS];
     write_words(pairs, marks, &mut words);

@@ -47,7 +47,8 @@ fn count(answer: Settlement) -> usize
 // Writes the lines of the n positions that were settled, with their amounts.
 fn write_settled(pairs: &[u8; 200], file: &[u8], n: usize, amounts: &[i64], out: &mut [u8]) -> usize
     requires { ⌜ (now pairs ≡ digitPairs) × Paid (planOf fileLimits (now file) (length (now amounts))) n (now amounts) ⌝ }
-    ensures { λ r. ⌜ Writes (positionsText (planOf fileLimits (now (file .entry)) (length (now (amounts .entry))))) r (now (out .entry)) (now (out .exit)) ⌝ }
+    ensures { λ r. ⌜ Writes (positionsText (planOf fileLimits (now (file .entry)) (length (now (amounts .entry)))))
+        r (now (out .entry)) (now (out .exit)) ⌝ }
 {
     match open_file(file) {
         Opened::Refused(_) => 0,
@@ -65,7 +66,9 @@ fn write_settled(pairs: &[u8; 200], file: &[u8], n: usize, amounts: &[i64], out:
 // Writes the sheet of a file that was settled into these amounts, with this answer.
 fn write_sheet(file: &[u8], answer: Settlement, amounts: &[i64], out: &mut [u8]) -> usize
     requires { ⌜ Paid (planOf fileLimits (now file) (length (now amounts))) (countOf (said answer)) (now amounts) ⌝ }
-    ensures { λ r. ⌜ Writes (positionsText (planOf fileLimits (now (file .entry)) (length (now (amounts .entry)))) ++ answerText (said answer)) r (now (out .entry)) (now (out .exit)) ⌝ }
+    ensures { λ r. ⌜ Writes
+        (positionsText (planOf fileLimits (now (file .entry)) (length (now (amounts .entry)))) ++ answerText (said answer))
+        r (now (out .entry)) (now (out .exit)) ⌝ }
 {
     let pairs = digit_pairs();
     let n = write_settled(&pairs, file, count(answer), amounts, out);
@@ -75,7 +78,8 @@ fn write_sheet(file: &[u8], answer: Settlement, amounts: &[i64], out: &mut [u8])
 // Settles a day file into the lent amounts, writes its sheet at the start of `out`, and answers the sheet's length. With room for less than
 // SHEET_SIZE bytes nothing is written, and the answer is 0.
 pub fn sheet(file: &[u8], amounts: &mut [i64], out: &mut [u8]) -> usize
-    ensures sheet { λ r. ⌜ Wrote (sheetWithin (length (now (out .entry))) (now (file .entry)) (length (now (amounts .entry)))) r (now (out .entry)) (now (out .exit)) ⌝ }
+    ensures sheet { λ r. ⌜ Wrote (sheetWithin (length (now (out .entry))) (now (file .entry)) (length (now (amounts .entry))))
+        r (now (out .entry)) (now (out .exit)) ⌝ }
     ensures amounts { λ r. ⌜ now (amounts .exit) ≡ amountsWithin (length (now (out .entry))) (now (file .entry)) (now (amounts .entry)) ⌝ }
 {
     if out.len() < SHEET_SIZE {

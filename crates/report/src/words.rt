@@ -54,7 +54,8 @@ fn words_of(pairs: &[u8; 200], marks: &[u8], i: usize) -> [u8; WORDS_SIZE]
 // Writes the words of the marks, one behind the other.
 pub(crate) fn write_words(pairs: &[u8; 200], marks: &[u8], out: &mut [u8]) -> usize
     requires { ⌜ now pairs ≡ digitPairs ⌝ }
-    ensures { λ r. ⌜ Writes (texts (wordsAt (marksIn (now (marks .entry)))) (length (marksIn (now (marks .entry))))) r (now (out .entry)) (now (out .exit)) ⌝ }
+    ensures { λ r. ⌜ Writes (texts (wordsAt (marksIn (now (marks .entry)))) (length (marksIn (now (marks .entry)))))
+        r (now (out .entry)) (now (out .exit)) ⌝ }
 {
     let n = mark_count(marks);
     let mut at = 0;

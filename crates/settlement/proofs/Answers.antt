@@ -11,7 +11,7 @@ use Rattle.numbers.specs.Folds.{first, some}
 use Rattle.products.specs.Products.{priceLimit, IR, BB, IB, products, sameCode, findIn, find, currencyOf, hasMonth}
 use Rattle.pricing.specs.Prices.{par, yieldAt}
 use Rattle.pricing.specs.Value.{billDividend, billDivisor, valueBy}
-use Rattle.pricing.specs.Calls.{judged, valueOf}
+use Rattle.pricing.specs.Calls.{valueOf}
 use Rattle.dayfile.specs.Limits.{fileLimits}
 use Rattle.dayfile.specs.Records.{markAt, correctionAt, positionAt}
 use Rattle.dayfile.specs.Layout.{countsOf}
@@ -116,7 +116,9 @@ files =
     ∷ []
 
 pub files-answered : map (λ x. answerOf fileLimits (x .file) 2) files ≡ map (λ x. x .answer) files
-unfolding files nearest par priceLimit yieldAt products sameCode findIn find hasMonth billDividend billDivisor valueBy judged valueOf u32Bytes u32At signed recordsOf first some markAt correctionAt positionAt listed quoted tickOf currencyOf worthOf decisionOf judgedOf countsOf latestOf finalOf changeOf amountOf totalOf planOf answerOf countsIn entryBytes headerOf madeOf
+unfolding files nearest par priceLimit yieldAt products sameCode findIn find hasMonth billDividend billDivisor valueBy valueOf
+    u32Bytes u32At signed recordsOf first some markAt correctionAt positionAt listed quoted tickOf currencyOf worthOf
+    decisionOf judgedOf countsOf latestOf finalOf changeOf amountOf totalOf planOf answerOf countsIn entryBytes headerOf madeOf
 files-answered = refl
 
 -- ---- what each check finds by itself
@@ -180,5 +182,6 @@ findings =
     ∷ []
 
 pub found-each : map (λ x. map (foundOf fileLimits (x .file)) (x .asked)) findings ≡ map (λ x. x .found) findings
-unfolding findings priceLimit products sameCode findIn find hasMonth u32Bytes u32At signed recordsOf first some markAt correctionAt positionAt listed quoted tickOf findingBy foundOf countsOf countsIn entryBytes headerOf madeOf
+unfolding findings priceLimit products sameCode findIn find hasMonth u32Bytes u32At signed recordsOf first some
+    markAt correctionAt positionAt listed quoted tickOf findingBy foundOf countsOf countsIn entryBytes headerOf madeOf
 found-each = refl

@@ -185,7 +185,8 @@ module _ (l : Limits) (f : List ℕ) (places : ℕ) {n k : ℕ} {aud nzd : ℤ} 
   pub one-final-price : (m p : ℕ) → FinalPrice (listsOfFile f .marks) (listsOfFile f .corrections) m p → p ≡ finalOf (listsOfFile f .marks) (listsOfFile f .corrections) m
   one-final-price m p d =
       let ls = listsOfFile f in
-      prices.one-final (ls .marks) (ls .corrections) (corrections.apart (ls .marks) (ls .positions) (ls .corrections) (settled-accepted l f places e .passed)) m d (prices.final-price-is (ls .marks) (ls .corrections) m)
+      prices.one-final (ls .marks) (ls .corrections)
+      (corrections.apart (ls .marks) (ls .positions) (ls .corrections) (settled-accepted l f places e .passed)) m d (prices.final-price-is (ls .marks) (ls .corrections) m)
 
   -- A correction with the highest number of those that name its mark decides, wherever it stands; where none names it, today's price stands.
   pub highest-decides : (k : ℕ) → k < length (listsOfFile f .corrections)

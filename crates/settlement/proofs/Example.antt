@@ -8,7 +8,7 @@ use Rattle.numbers.specs.Rounding.{nearest}
 use Rattle.products.specs.Products.{priceLimit, products, sameCode, findIn, find, currencyOf, hasMonth}
 use Rattle.pricing.specs.Prices.{par, yieldAt}
 use Rattle.pricing.specs.Value.{billDividend, billDivisor, valueBy}
-use Rattle.pricing.specs.Calls.{judged, valueOf}
+use Rattle.pricing.specs.Calls.{valueOf}
 use Rattle.numbers.specs.Bytes.{u32At, signed, recordsOf, u32Bytes}
 use Rattle.numbers.specs.Folds.{first, some}
 use Rattle.dayfile.specs.Limits.{fileLimits}
@@ -49,7 +49,9 @@ case-made = refl
 pub case-settled : (answerOf fileLimits caseFile 2 ≡ settled 2 (pos 14436) (pos 0) 1)
     × (amountsAfter fileLimits caseFile (pos 1 ∷ pos 2 ∷ pos 3 ∷ []) ≡ pos 24060 ∷ negsuc 9623 ∷ pos 3 ∷ [])
     × (answerOf fileLimits caseFile 1 ≡ refused 14 0)
-unfolding marks corrections positions caseFile nearest par priceLimit yieldAt products sameCode findIn find hasMonth billDividend billDivisor valueBy judged valueOf u32At signed recordsOf first some markAt correctionAt positionAt listed quoted tickOf currencyOf worthOf decisionOf judgedOf countsOf latestOf finalOf changeOf amountOf totalOf planOf answerOf amountsAfter
+unfolding marks corrections positions caseFile nearest par priceLimit yieldAt products sameCode findIn find hasMonth billDividend billDivisor valueBy valueOf
+    u32At signed recordsOf first some markAt correctionAt positionAt listed quoted tickOf currencyOf worthOf
+    decisionOf judgedOf countsOf latestOf finalOf changeOf amountOf totalOf planOf answerOf amountsAfter
 case-settled = (refl, refl, refl)
 
 -- Two marks, IR as above and BB 6 19 from 940,000 to 940,100, which no correction names; between two copies of the correction one with a lower
@@ -65,7 +67,9 @@ twoMarks =
 -- the higher number decides, today's price stands where no correction does, and each currency has its own total
 pub two-marks-settled : (answerOf fileLimits twoMarks 2 ≡ settled 2 (pos 24060) (negsuc 9575) 1)
     × (amountsAfter fileLimits twoMarks (pos 1 ∷ pos 2 ∷ []) ≡ pos 24060 ∷ negsuc 9575 ∷ [])
-unfolding twoMarks nearest par priceLimit yieldAt products sameCode findIn find hasMonth billDividend billDivisor valueBy judged valueOf u32At signed recordsOf first some markAt correctionAt positionAt listed quoted tickOf currencyOf worthOf decisionOf judgedOf countsOf latestOf finalOf changeOf amountOf totalOf planOf answerOf amountsAfter
+unfolding twoMarks nearest par priceLimit yieldAt products sameCode findIn find hasMonth billDividend billDivisor valueBy valueOf
+    u32At signed recordsOf first some markAt correctionAt positionAt listed quoted tickOf currencyOf worthOf
+    decisionOf judgedOf countsOf latestOf finalOf changeOf amountOf totalOf planOf answerOf amountsAfter
 two-marks-settled = (refl, refl)
 
 -- a count of 0 and an offset of 24

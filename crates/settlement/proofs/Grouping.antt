@@ -51,7 +51,8 @@ grouped-one ms {n} {i} h =
       alike = λ k l. ap (λ (m : ℕ). markAt ms m .code) (getD-replicate groupSize k i 0 l);
     }
 
-pub grouped-more : (ms : List Mark) {n i : ℕ} {g : List ℕ} {count m : ℕ} → 1 ≤ count → count < groupSize → m < n → markAt ms m .code ≡ markAt ms i .code → Grouped ms n i g → Grouped ms n i (set g count m)
+pub grouped-more : (ms : List Mark) {n i : ℕ} {g : List ℕ} {count m : ℕ} → 1 ≤ count → count < groupSize → m < n
+    → markAt ms m .code ≡ markAt ms i .code → Grouped ms n i g → Grouped ms n i (set g count m)
 grouped-more ms {n} {i} {g} {count} {m} f h l e a =
     record {
       size = simp length-set (a .size);
@@ -220,7 +221,8 @@ reached-more target {n} {i} {a} {a'} h s r =
     go j l true p = rw (eqb-true j i p) (s .here (r .worked))
     go j l false p = let d = eqb-false j i p in s .keeps (r .worked) j (r .before j (omega (arith, l, d)))
 
-pub reached-all : (ms : List Mark) (final : ℕ → ℕ) {n i : ℕ} {a : List ℤ} {done : List Bool} → n ≡ length ms → n ≤ fileLimits .marks → n ≤ i → Reached (changesOf ms final) n i a done → a ≡ changesOf ms final
+pub reached-all : (ms : List Mark) (final : ℕ → ℕ) {n i : ℕ} {a : List ℤ} {done : List Bool}
+    → n ≡ length ms → n ≤ fileLimits .marks → n ≤ i → Reached (changesOf ms final) n i a done → a ≡ changesOf ms final
 reached-all ms final {n} {i} {a} e few h r =
     ext-getD (pos 0) a (changesOf ms final) (r .worked .size ∙ sym (length-front (changeOf ms final) blank (length ms) (rw (length-blank, ← e) few) ∙ length-blank)) (λ j l. go j (ltb j n) refl)
   where

@@ -49,7 +49,8 @@ pub record Standing (ms : List Mark) (cs : List Correction) (n k : ℕ) (numbers
   pub number : Holds 0 (numberAt cs k) n numbers
   pub price : Holds 0 (priceAt ms cs k) n prices
 
-pub standing-none : (ms : List Mark) (cs : List Correction) {n : ℕ} {prices : List ℕ} → n ≤ fileLimits .marks → Holds 0 (todayOf ms) n prices → Standing ms cs n 0 (replicate (fileLimits .marks) 0) prices
+pub standing-none : (ms : List Mark) (cs : List Correction) {n : ℕ} {prices : List ℕ}
+    → n ≤ fileLimits .marks → Holds 0 (todayOf ms) n prices → Standing ms cs n 0 (replicate (fileLimits .marks) 0) prices
 unfolding latestOf
 standing-none ms cs h p =
     record {
@@ -86,7 +87,9 @@ module _ (ms : List Mark) (cs : List Correction) (k : ℕ) {n : ℕ} {numbers pr
       let l = latestOf cs (c .mark) k in
       let after : latestOf cs (c .mark) (suc k) ≡ newerOf l c = of-named cs k (c .mark) mark ∙ ap (newerOf l) (sym e) in
       let test : b ≡ leb (numberOf l) (c .number) = p ∙ ap (λ x. leb x (c .number)) (s .number .entry (c .mark) h) in
-      let number : w ≡ numberAt cs (suc k) (c .mark) = r ∙ ap (λ x. cond b (c .number) x) (s .number .entry (c .mark) h) ∙ ap (λ t. cond t (c .number) (numberOf l)) test ∙ sym (newer-number l c) ∙ ap numberOf (sym after) in
+      let number : w ≡ numberAt cs (suc k) (c .mark) =
+      r ∙ ap (λ x. cond b (c .number) x) (s .number .entry (c .mark) h) ∙ ap (λ t. cond t (c .number) (numberOf l)) test
+      ∙ sym (newer-number l c) ∙ ap numberOf (sym after) in
       let price : v ≡ priceAt ms cs (suc k) (c .mark) =
       q ∙ ap (λ x. cond b (c .price) x) (s .price .entry (c .mark) h) ∙ ap (λ t. cond t (c .price) (orToday l (todayOf ms (c .mark)))) test
       ∙ sym (newer-price l c (todayOf ms (c .mark))) ∙ ap (λ x. orToday x (todayOf ms (c .mark))) (sym after) in

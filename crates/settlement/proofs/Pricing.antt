@@ -9,7 +9,7 @@ use Rattle.products.specs.declared.table.Found.the-variants.{At, Missing}
 use Rattle.products.specs.declared.table.Code.{Code}
 use Rattle.pricing.proofs.Promises as pricing
 use mathlib.Core.Bool.{true}
-use Rattle.pricing.specs.Value.{valueCap}
+use Rattle.pricing.specs.Sizes.{valueCap}
 use Rattle.checks.specs.Table.{listed, listedIn, tickOf, tickIn}
 use Rattle.pricing.specs.Calls.{orZero}
 use Rattle.settlement.specs.Worths.{worthOf}

@@ -108,7 +108,8 @@ module _ (l : Limits) (f g : List ℕ) (copies p q : ℕ) (r : Resent f g copies
 
   pub changes-same : changeIn merged ≡ changeIn (listsOfFile f)
   changes-same =
-      ap (changeOf (listsOfFile f .marks)) (sym (same-finals (listsOfFile f .marks) (listsOfFile f .corrections) (listsOfFile g .corrections) to back (apart (listsOfFile f .marks) (listsOfFile f .positions) (listsOfFile f .corrections) (acc .passed))))
+      let ls = listsOfFile f in
+      ap (changeOf (ls .marks)) (sym (same-finals (ls .marks) (ls .corrections) (listsOfFile g .corrections) to back (apart (ls .marks) (ls .positions) (ls .corrections) (acc .passed))))
 
   pub resent-more : resentOf (listsOfFile g .corrections) ≡ resentOf (listsOfFile f .corrections) + copies
   resent-more =

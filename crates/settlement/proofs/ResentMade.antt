@@ -22,7 +22,8 @@ use Rattle.dayfile.proofs.Parts.{corrections-sized}
 use Rattle.settlement.proofs.Resending.{sent-within, sent-length}
 use Rattle.dayfile.proofs.Opening.{opens, laid-out, laid-opens}
 use Rattle.settlement.proofs.Accepted.{settled-accepted}
-use Rattle.dayfile.proofs.Made.{Whole, counts-by, sections-whole, made-counts, made-length, made-marks-at, made-corrections-at, made-positions-at, made-marks, made-corrections, made-positions, made-is-bytes}
+use Rattle.dayfile.proofs.Made.{Whole, counts-by, sections-whole, made-counts, made-length, made-marks, made-corrections, made-positions, made-is-bytes}
+use Rattle.dayfile.proofs.Made.{made-marks-at, made-corrections-at, made-positions-at}
 
 -- ---- records of one size and their bytes
 
@@ -81,7 +82,8 @@ module _ (f : List ℕ) (o : openedOf fileLimits f ≡ File (countsOf f)) (ds : 
       let k : length (bytesOf ds) / correctionSize ≡ length ds = omega arith in
       record {
         limited = record { marks = w .limited .marks; corrections = few; positions = w .limited .positions };
-        counts = sym (counts-by counts (sym (ap (λ (e : DayFile). e .marks) (w .counts))) (size-is correctionOf correctionSize (bytesOf ds) ∙ k) (sym (ap (λ (e : DayFile). e .positions) (w .counts))));
+        counts = sym (counts-by counts (sym (ap (λ (e : DayFile). e .marks) (w .counts)))
+            (size-is correctionOf correctionSize (bytesOf ds) ∙ k) (sym (ap (λ (e : DayFile). e .positions) (w .counts))));
         marks = w .marks;
         corrections = n;
         positions = w .positions;

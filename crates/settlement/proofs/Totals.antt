@@ -33,9 +33,11 @@ module _ (ms : List Mark) (ps : List Position) (change : ℕ → ℤ) (wanted : 
   pub total-is : ((i : ℕ) → i < length ps → positionAt ps i .mark < length ms) → totalOf ms ps change wanted ≡ sumOfAmounts ms ps change wanted
   unfolding totalOf shareOf amountOf weight
   total-is named =
-      sum-same (λ m. keepOf wanted (currencyOf (markAt ms m .code)) (netOf ps m *ℤ change m)) (λ m. netOf ps m *ℤ weight m) (length ms) (λ m. keep-mul wanted (currencyOf (markAt ms m .code)) (netOf ps m) (change m))
+      sum-same (λ m. keepOf wanted (currencyOf (markAt ms m .code)) (netOf ps m *ℤ change m)) (λ m. netOf ps m *ℤ weight m) (length ms)
+      (λ m. keep-mul wanted (currencyOf (markAt ms m .code)) (netOf ps m) (change m))
       ∙ sym (exchange (λ i. positionAt ps i .lots) (λ i. positionAt ps i .mark) weight (length ms) (length ps) named)
-      ∙ sym (sum-same (shareOf ms ps change wanted) (λ i. positionAt ps i .lots *ℤ weight (positionAt ps i .mark)) (length ps) (λ i. keep-mul wanted (currencyOf (markAt ms (positionAt ps i .mark) .code)) (positionAt ps i .lots) (change (positionAt ps i .mark))))
+      ∙ sym (sum-same (shareOf ms ps change wanted) (λ i. positionAt ps i .lots *ℤ weight (positionAt ps i .mark)) (length ps)
+      (λ i. keep-mul wanted (currencyOf (markAt ms (positionAt ps i .mark) .code)) (positionAt ps i .lots) (change (positionAt ps i .mark))))
 
 -- ---- from the array to the definitions
 
@@ -51,8 +53,10 @@ module _ (l : Lists) (acc : Accepted l) where
   unfolding changes
   paid-is a = ap (λ t. t ++ drop (length (l .positions)) a) (table-same _ _ (length (l .positions)) amount-same)
 
-  pub sum-is : (wanted : Currency) → sumOfAmounts (l .marks) (l .positions) (entryOf (changesOf (l .marks) (finalOf (l .marks) (l .corrections)))) wanted ≡ totalOf (l .marks) (l .positions) (changeIn l) wanted
+  pub sum-is : (wanted : Currency) → sumOfAmounts (l .marks) (l .positions) (entryOf (changesOf (l .marks) (finalOf (l .marks) (l .corrections)))) wanted
+      ≡ totalOf (l .marks) (l .positions) (changeIn l) wanted
   unfolding changes shareOf
   sum-is wanted =
-      sum-below _ (shareOf (l .marks) (l .positions) (changeIn l) wanted) (length (l .positions)) (λ i h. ap (keepOf wanted (currencyOf (markAt (l .marks) (positionAt (l .positions) i .mark) .code))) (amount-same i h))
+      sum-below _ (shareOf (l .marks) (l .positions) (changeIn l) wanted) (length (l .positions))
+      (λ i h. ap (keepOf wanted (currencyOf (markAt (l .marks) (positionAt (l .positions) i .mark) .code))) (amount-same i h))
       ∙ sym (total-is (l .marks) (l .positions) (changeIn l) wanted (λ i h. mark-in l (acc .passed) i h))

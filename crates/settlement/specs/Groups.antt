@@ -10,7 +10,7 @@ use Rattle.dayfile.specs.Limits.{fileLimits}
 use Rattle.dayfile.specs.Records.{markAt}
 use Rattle.dayfile.specs.declared.records.Mark.{Mark}
 use Rattle.products.specs.Products.{sameCode}
-use Rattle.pricing.specs.Value.{valueCap}
+use Rattle.pricing.specs.Sizes.{valueCap}
 use Rattle.pricing.specs.Calls.{lanes}
 
 abbrev pub groupSize : ℕ

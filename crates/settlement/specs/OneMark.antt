@@ -18,7 +18,8 @@ use Rattle.settlement.specs.declared.one_mark.MarkPrices.{MarkPrices}
 use Rattle.settlement.specs.declared.one_mark.MarkPrices.the-variants as code
 use Rattle.settlement.specs.declared.one_mark.Deciding.{Deciding}
 
--- the previous price, the final price, the correction that decides it, and the change in value of one contract; or a check's number and an index
+-- the previous price, the final price, the correction that decides it, and the change in value of one contract;
+-- or a check's number and an index
 pub data MarkAnswer : Type 0 where
   priced : ℕ → ℕ → Latest → ℤ → MarkAnswer
   refused : ℕ → ℕ → MarkAnswer

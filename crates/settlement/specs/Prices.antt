@@ -43,7 +43,8 @@ finalOf ms cs m = orToday (latestOf cs m (length cs)) (markAt ms m .today)
 -- and today's price where none names it
 pub data FinalPrice (ms : List Mark) (cs : List Correction) (m p : ℕ) : Type 0 where
   corrected : (k : ℕ) → k < length cs → correctionAt cs k .mark ≡ m → correctionAt cs k .price ≡ p
-      → ((j : ℕ) → j < length cs → correctionAt cs j .mark ≡ m → correctionAt cs j .number ≤ correctionAt cs k .number) → FinalPrice ms cs m p
+      → ((j : ℕ) → j < length cs → correctionAt cs j .mark ≡ m → correctionAt cs j .number ≤ correctionAt cs k .number)
+      → FinalPrice ms cs m p
   uncorrected : ((k : ℕ) → k < length cs → correctionAt cs k .mark ≢ m) → markAt ms m .today ≡ p → FinalPrice ms cs m p
 
 -- each correction of cs stands in ds

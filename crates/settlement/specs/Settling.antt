@@ -68,7 +68,8 @@ previousIn f i = markIn f i .previous
 abbrev pub finalIn : List ℕ → ℕ → ℕ
 finalIn f i = finalOf (listsOfFile f .marks) (listsOfFile f .corrections) (positionIn f i .mark)
 
--- the answer of a settlement: the count, the totals in Australian and New Zealand cents, the resent count; or a check's number and a record's index
+-- the answer of a settlement: the count, the totals in Australian and New Zealand cents, the resent count;
+-- or a check's number and a record's index
 pub data Answer : Type 0 where
   settled : ℕ → ℤ → ℤ → ℕ → Answer
   refused : ℕ → ℕ → Answer
@@ -83,7 +84,9 @@ abbrev pub paid : Lists → List ℤ → List ℤ
 paid ls a = front (amountOf (ls .positions) (changeIn ls)) a (length (ls .positions))
 
 abbrev pub totals : Lists → Answer
-totals ls = settled (length (ls .positions)) (totalOf (ls .marks) (ls .positions) (changeIn ls) Aud) (totalOf (ls .marks) (ls .positions) (changeIn ls) Nzd) (resentOf (ls .corrections))
+totals ls =
+    settled (length (ls .positions)) (totalOf (ls .marks) (ls .positions) (changeIn ls) Aud)
+    (totalOf (ls .marks) (ls .positions) (changeIn ls) Nzd) (resentOf (ls .corrections))
 
 -- what is to be done with three lists
 pub data Plan : Type 0 where

@@ -82,8 +82,10 @@ fn pay_flagged(
     nzd: &[bool; DayFile::MAX_MARKS],
     amounts: &mut [i64],
 ) -> Sums
-    requires { ⌜ (Payable (positionsIn (now positions)) × Bounded (now a)) × (length (positionsIn (now positions)) ≤ length (now amounts)) ⌝ }
-    ensures { λ r. ⌜ PaysFlagged (positionsIn (now (positions .entry))) (now (a .entry)) (now (nzd .entry)) r (now (amounts .entry)) (now (amounts .exit)) ⌝ }
+    requires { ⌜ (Payable (positionsIn (now positions)) × Bounded (now a))
+        × (length (positionsIn (now positions)) ≤ length (now amounts)) ⌝ }
+    ensures { λ r. ⌜ PaysFlagged (positionsIn (now (positions .entry))) (now (a .entry)) (now (nzd .entry))
+        r (now (amounts .entry)) (now (amounts .exit)) ⌝ }
 {
     let count = position_count(positions);
     let mut s = Sums {
@@ -109,8 +111,10 @@ pub(crate) fn pay(
     a: &[i64; DayFile::MAX_MARKS],
     amounts: &mut [i64],
 ) -> Sums
-    requires { ⌜ ((Payable (positionsIn (now positions)) × Named (marksIn (now marks)) (positionsIn (now positions))) × Bounded (now a)) × (length (positionsIn (now positions)) ≤ length (now amounts)) ⌝ }
-    ensures { λ r. ⌜ Pays (marksIn (now (marks .entry))) (positionsIn (now (positions .entry))) (now (a .entry)) r (now (amounts .entry)) (now (amounts .exit)) ⌝ }
+    requires { ⌜ ((Payable (positionsIn (now positions)) × Named (marksIn (now marks)) (positionsIn (now positions))) × Bounded (now a))
+        × (length (positionsIn (now positions)) ≤ length (now amounts)) ⌝ }
+    ensures { λ r. ⌜ Pays (marksIn (now (marks .entry))) (positionsIn (now (positions .entry))) (now (a .entry))
+        r (now (amounts .entry)) (now (amounts .exit)) ⌝ }
 {
     let nzd = nzds(marks);
     pay_flagged(positions, a, &nzd, amounts)

@@ -18,7 +18,7 @@ ghost use lib.ListN.{length};
 ghost use Rattle.numbers.specs.Folds.{Holds};
 ghost use Rattle.dayfile.specs.Limits.{fileLimits};
 ghost use Rattle.dayfile.specs.Records.{marksIn, correctionsIn, markAt};
-ghost use Rattle.pricing.specs.Value.{valueCap};
+ghost use Rattle.pricing.specs.Sizes.{valueCap};
 ghost use Rattle.pricing.specs.Calls.{lanes};
 ghost use Rattle.settlement.specs.Worths.{worthOf};
 ghost use Rattle.settlement.specs.Prices.{finalOf, changeOf};
@@ -141,7 +141,8 @@ fn work_group(
     done: &mut [bool; DayFile::MAX_MARKS],
 )
     requires { ⌜ ((i < n) × (n ≤ fileLimits .marks)) × (n ≡ length (marksIn (now marks))) ⌝ }
-    ensures { λ r. ⌜ Works (changesOf (marksIn (now (marks .entry))) (lastOf (now (finals .entry)))) i (now (a .entry)) (now (done .entry)) (now (a .exit)) (now (done .exit)) ⌝ }
+    ensures { λ r. ⌜ Works (changesOf (marksIn (now (marks .entry))) (lastOf (now (finals .entry))))
+        i (now (a .entry)) (now (done .entry)) (now (a .exit)) (now (done .exit)) ⌝ }
 {
     let g = group(marks, done, n, i);
     let p = lane_prices(marks, finals, g);
@@ -149,8 +150,8 @@ fn work_group(
     write_group(g, v, a, done);
 }
 
-// The change in value of one contract between two prices. (`change` has the same two calls for itself, so that the compiler takes them into the
-// loop over the marks.)
+// The change in value of one contract between two prices. (`change` has the same two calls for itself, so that the compiler takes
+// them into the loop over the marks.)
 pub(crate) fn change_between(code: Code, last: u32, previous: u32) -> i64
     ensures { λ r. ⌜ r ≡ pos (worthOf code last) -ℤ pos (worthOf code previous) ⌝ }
 {
@@ -178,7 +179,8 @@ fn work(
     done: &mut [bool; DayFile::MAX_MARKS],
 )
     requires { ⌜ ((i < n) × (n ≤ fileLimits .marks)) × (n ≡ length (marksIn (now marks))) ⌝ }
-    ensures { λ r. ⌜ Works (changesOf (marksIn (now (marks .entry))) (lastOf (now (finals .entry)))) i (now (a .entry)) (now (done .entry)) (now (a .exit)) (now (done .exit)) ⌝ }
+    ensures { λ r. ⌜ Works (changesOf (marksIn (now (marks .entry))) (lastOf (now (finals .entry))))
+        i (now (a .entry)) (now (done .entry)) (now (a .exit)) (now (done .exit)) ⌝ }
 {
     if done[i] {
         return;
@@ -193,7 +195,8 @@ fn work(
 // Writes the changes in value of all marks.
 pub(crate) fn changes(marks: &[u8], corrections: &[u8], a: &mut [i64; DayFile::MAX_MARKS])
     requires { ⌜ (length (marksIn (now marks)) ≤ fileLimits .marks) × (now a ≡ blank) ⌝ }
-    ensures { λ _. ⌜ now (a .exit) ≡ changesOf (marksIn (now (marks .entry))) (finalOf (marksIn (now (marks .entry))) (correctionsIn (now (corrections .entry)))) ⌝ }
+    ensures { λ _. ⌜ now (a .exit) ≡ changesOf (marksIn (now (marks .entry)))
+        (finalOf (marksIn (now (marks .entry))) (correctionsIn (now (corrections .entry)))) ⌝ }
 {
     let n = mark_count(marks);
     let mut last = [0u32; DayFile::MAX_MARKS];

@@ -56,7 +56,8 @@ fn after(d: Deciding, m: usize, c: Correction) -> Deciding
 
 // The highest-numbered correction of a mark.
 fn highest(corrections: &[u8], m: usize) -> Deciding
-    ensures { λ r. ⌜ latestIn r ≡ latestOf (correctionsIn (now (corrections .entry))) m (length (correctionsIn (now (corrections .entry)))) ⌝ }
+    ensures { λ r. ⌜ latestIn r ≡ latestOf (correctionsIn (now (corrections .entry)))
+        m (length (correctionsIn (now (corrections .entry)))) ⌝ }
 {
     let n = correction_count(corrections);
     let mut d = Deciding {

@@ -31,7 +31,8 @@ fn pick(first: bool, x: u32, y: u32) -> u32
 // Writes today's price of each of n marks.
 fn todays(marks: &[u8], n: usize, price: &mut [u32; DayFile::MAX_MARKS])
     requires { ⌜ (n ≤ fileLimits .marks) × (length (now price) ≡ fileLimits .marks) ⌝ }
-    ensures { λ _. ⌜ (length (now (price .exit)) ≡ fileLimits .marks) × Holds 0 (todayOf (marksIn (now (marks .entry)))) n (now (price .exit)) ⌝ }
+    ensures { λ _. ⌜ (length (now (price .exit)) ≡ fileLimits .marks)
+        × Holds 0 (todayOf (marksIn (now (marks .entry)))) n (now (price .exit)) ⌝ }
 {
     let mut i = 0;
     while i < n {

@@ -37,8 +37,10 @@ fn settle_accepted(
     resent: usize,
     amounts: &mut [i64],
 ) -> Settlement
-    requires { ⌜ Passing (listsOf (now marks) (now corrections) (now positions)) resent × (length (positionsIn (now positions)) ≤ length (now amounts)) ⌝ }
-    ensures { λ r. ⌜ Settles (accept (listsOf (now (marks .entry)) (now (corrections .entry)) (now (positions .entry)))) r (now (amounts .entry)) (now (amounts .exit)) ⌝ }
+    requires { ⌜ Passing (listsOf (now marks) (now corrections) (now positions)) resent
+        × (length (positionsIn (now positions)) ≤ length (now amounts)) ⌝ }
+    ensures { λ r. ⌜ Settles (accept (listsOf (now (marks .entry)) (now (corrections .entry)) (now (positions .entry))))
+        r (now (amounts .entry)) (now (amounts .exit)) ⌝ }
 {
     let mut a = [0i64; DayFile::MAX_MARKS];
     changes(marks, corrections, &mut a);
@@ -62,7 +64,9 @@ fn settle_records(
     amounts: &mut [i64],
 ) -> Settlement
     requires { ⌜ Passing (listsOf (now marks) (now corrections) (now positions)) resent ⌝ }
-    ensures { λ r. ⌜ Settles (roomPlan (listsOf (now (marks .entry)) (now (corrections .entry)) (now (positions .entry))) (length (now (amounts .entry)))) r (now (amounts .entry)) (now (amounts .exit)) ⌝ }
+    ensures { λ r. ⌜ Settles
+        (roomPlan (listsOf (now (marks .entry)) (now (corrections .entry)) (now (positions .entry))) (length (now (amounts .entry))))
+        r (now (amounts .entry)) (now (amounts .exit)) ⌝ }
 {
     if amounts.len() < position_count(positions) {
         return Settlement::Refused {

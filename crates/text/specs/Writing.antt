@@ -20,8 +20,8 @@ pub record Wrote (s : List ℕ) (n : ℕ) (before after : List ℕ) : Type 0 whe
 unfoldable pub fitted : List ℕ → List ℕ → List ℕ
 fitted s out = cond (leb (length s) (length out)) s []
 
--- what a writer of several parts does, which looks for room at each of them: it stays within the buffer, and where the buffer has room for the
--- whole text, the text is written
+-- what a writer of several parts does, which looks for room at each of them: it stays within the buffer, and where the buffer
+-- has room for the whole text, the text is written
 pub record Writes (s : List ℕ) (n : ℕ) (before after : List ℕ) : Type 0 where
   pub within : n ≤ length before
   pub kept : length after ≡ length before

@@ -11,7 +11,8 @@ ghost use Rattle.text.specs.Table.{digitPairs, decimalBy, signOf, signed
 ghost use Rattle.text.specs.Writing.{over, fitted, Wrote};
 
 const PAIRS: [u8; 200] =
-    *b"00010203040506070809101112131415161718192021222324252627282930313233343536373839404142434445464748495051525354555657585960616263646566676869707172737475767778798081828384858687888990919293949596979899";
+    *b"0001020304050607080910111213141516171819202122232425262728293031323334353637383940414243444546474849\
+    5051525354555657585960616263646566676869707172737475767778798081828384858687888990919293949596979899";
 
 // The pairs of digits from 00 to 99. A caller with many numbers to write makes them once, and lends them.
 pub fn digit_pairs() -> [u8; 200]
@@ -69,7 +70,8 @@ fn width(n: u64) -> usize
     long_width(n)
 }
 
-// Writes the one or two digits of a number below 100, the last in the place i. A first digit 0 is overwritten, so that no jump depends on the number.
+// Writes the one or two digits of a number below 100, the last in the place i. A first digit 0 is overwritten, so that no jump
+// depends on the number.
 fn write_first(pairs: &[u8; 200], n: u64, i: usize, out: &mut [u8])
     requires { ⌜ (n < 100) × (i + 1 ≡ length (decimal n)) × (i < length (now out)) ⌝ }
     ensures { λ _. ⌜ now (out .exit) ≡ over (decimalBy (now (pairs .entry)) n) (now (out .entry)) ⌝ }
@@ -133,7 +135,8 @@ fn sign(n: i64) -> usize
 // Writes a minus sign where s is 1, and the digits. The first digit overwrites a sign that should not stand, so that no jump depends on s.
 fn write_with_sign(pairs: &[u8; 200], s: usize, size: u64, out: &mut [u8]) -> usize
     requires { ⌜ s ≤ 1 ⌝ }
-    ensures { λ r. ⌜ Wrote (fitted (take s (minusSign ∷ []) ++ decimalBy (now (pairs .entry)) size) (now (out .entry))) r (now (out .entry)) (now (out .exit)) ⌝ }
+    ensures { λ r. ⌜ Wrote (fitted (take s (minusSign ∷ []) ++ decimalBy (now (pairs .entry)) size) (now (out .entry)))
+        r (now (out .entry)) (now (out .exit)) ⌝ }
 {
     let k = width(size);
     if out.len() < s + k {

@@ -5,6 +5,7 @@ mod days;
 mod process;
 mod table;
 
+use citronreef::records::MAX_POSITIONS;
 use citronreef::settle;
 use days::{damaged, sample};
 use oracles::random::Random;
@@ -30,7 +31,7 @@ fn every_further_check_is_told_with_its_first_record() {
     let mut met = [0; 14];
     for _ in 0..3_000 {
         let file = damaged(&mut random);
-        if let Err(refusal) = settle(&file, &mut [0; 4_096]) {
+        if let Err(refusal) = settle(&file, &mut [0; MAX_POSITIONS]) {
             let found = (1..=13).filter_map(|number| Some((number, conditions::first(&file, number)?)));
             let found: Vec<(u32, usize)> = found.collect();
             assert_eq!(found[0], (refusal.number, refusal.index));

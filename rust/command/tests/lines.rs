@@ -2,6 +2,7 @@
 
 mod process;
 
+use citronreef::records::MAX_MARKS;
 use process::run;
 
 fn has_lines(text: &str, lines: &[&str]) {
@@ -66,7 +67,8 @@ fn a_record_among_further_bytes() {
 #[test]
 fn a_header_line_is_told() {
     let line = "  The header is line 2 of the text.";
-    for numbers in ["257 24 0 24 0 24", "0 25 0 24 0 24", "0 24 0 24 1 24", "none"] {
+    let above = format!("{} 24 0 24 0 24", MAX_MARKS + 1);
+    for numbers in [above.as_str(), "0 25 0 24 0 24", "0 24 0 24 1 24", "none"] {
         told(&format!("# a day\nheader {numbers}\n"), &[line]);
     }
     let ran = run(&["explain", "--text"], b"bytes 00\n");

@@ -4,10 +4,11 @@ mod days;
 mod process;
 mod table;
 
-use citronreef::records::{header, Correction, Day, Mark, RECORD_SIZE};
+use citronreef::records::{header, Correction, Day, Mark, MAX_LOTS, MAX_MARKS, MAX_POSITIONS, PRICE_LIMIT, RECORD_SIZE};
 use citronreef::{settle, Refusal};
 use days::{damaged, sample};
 use oracles::plain::{read, same_contract};
+use oracles::products::YEAR_LIMIT;
 use oracles::random::Random;
 use process::{run, Ran};
 
@@ -46,7 +47,7 @@ const UNREAD: &str = "  The records are not looked at: other mistakes may be the
 fn header_and_length() {
     has_lines(&explained(&[7; 23], 1, 0), &["  The file has 23 bytes, and its header alone has 24.", UNREAD]);
     has_lines(
-        &explained(&with_header(0, 257), 2, 0),
+        &explained(&with_header(0, MAX_MARKS as u32 + 1), 2, 0),
         &[
             "                             at byte   the file has        at most",
             "  marks                            0            257            256  <-- above the limit",
@@ -86,8 +87,8 @@ fn marks() {
         2,
         &["    month           13      <-- not one of IB's months: 1, 2, 3, 4, 5, 6, 7, 8, 9, 10, 11, 12"],
     );
-    edited(|day| day.marks[3].year = 100, 5, 3, &[head, "    year            100     <-- above 99"]);
-    edited(|day| day.marks[3].previous = 1_000_050, 6, 3, &[head, "    previous price  100.005  <-- above 100.0000"]);
+    edited(|day| day.marks[3].year = YEAR_LIMIT + 1, 5, 3, &[head, "    year            100     <-- above 99"]);
+    edited(|day| day.marks[3].previous = PRICE_LIMIT + 50, 6, 3, &[head, "    previous price  100.005  <-- above 100.0000"]);
     edited(
         |day| day.marks[3].today = 956_425,
         7,
@@ -133,7 +134,7 @@ fn corrections() {
         ],
     );
     edited(
-        |day| day.corrections[2].price = 1_000_100,
+        |day| day.corrections[2].price = PRICE_LIMIT + 100,
         10,
         2,
         &[head, "    price           100.01        <-- above 100.0000"],
@@ -168,8 +169,8 @@ fn positions() {
     );
     for (lots, line) in [
         (0, "    lots            0             <-- no lots"),
-        (1_000_001, "    lots            1,000,001     <-- above 1,000,000"),
-        (-1_000_001, "    lots            -1,000,001    <-- below -1,000,000"),
+        (MAX_LOTS + 1, "    lots            1,000,001     <-- above 1,000,000"),
+        (-MAX_LOTS - 1, "    lots            -1,000,001    <-- below -1,000,000"),
     ] {
         edited(|day| day.positions[4].lots = lots, 13, 4, &[head, "    account         1003", line]);
     }
@@ -210,7 +211,7 @@ fn damaged_files() {
     let mut met = [0; 14];
     for _ in 0..1_500 {
         let file = damaged(&mut random);
-        if let Err(refusal) = settle(&file, &mut [0; 4_096]) {
+        if let Err(refusal) = settle(&file, &mut [0; MAX_POSITIONS]) {
             let text = explained(&file, refusal.number, refusal.index);
             assert!(refusal.number == 1 || text.contains("  <-- "), "{text}");
             let records = read(&file).map_or_else(|_| vec![], |day| involved(&day, refusal));

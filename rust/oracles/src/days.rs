@@ -1,6 +1,6 @@
 //! Random days that every check passes, and ways to damage their files.
 
-use crate::products::{Product, PRICE_LIMIT, PRODUCTS};
+use crate::products::{Product, PRICE_LIMIT, PRODUCTS, YEAR_LIMIT};
 use crate::random::Random;
 use citronreef::records::*;
 use std::collections::{HashMap, HashSet};
@@ -21,7 +21,7 @@ fn mark(random: &mut Random, products: &[Product]) -> Mark {
     Mark {
         code: product.code,
         month: random.pick(product.months),
-        year: random.below(100) as u8,
+        year: random.below(usize::from(YEAR_LIMIT) + 1) as u8,
         previous: price(random, product),
         today: price(random, product),
     }
@@ -110,9 +110,9 @@ fn damage_mark(random: &mut Random, day: &mut Day) -> Option<()> {
     match random.below(7) {
         0 => mark.code = random.pick(&[*b"ZZ", *b"ir", *b"RI", [0, 0], *b"XI"]),
         1 => mark.month = random.pick(&[0, 1, 2, 4, 13, 16, 32, 255]),
-        2 => mark.year = random.pick(&[99, 100, 128, 255]),
-        3 => mark.previous = random.pick(&[1_000_001, 1_000_050, 1_000_100, u32::MAX]),
-        4 => mark.today = random.pick(&[1_000_000, 1_000_001, 1_000_100, u32::MAX]),
+        2 => mark.year = random.pick(&[YEAR_LIMIT, YEAR_LIMIT + 1, 128, 255]),
+        3 => mark.previous = random.pick(&[PRICE_LIMIT + 1, PRICE_LIMIT + 50, PRICE_LIMIT + 100, u32::MAX]),
+        4 => mark.today = random.pick(&[PRICE_LIMIT, PRICE_LIMIT + 1, PRICE_LIMIT + 100, u32::MAX]),
         5 => mark.previous = mark.previous.wrapping_add(random.pick(&[1, 25, 50, u32::MAX])),
         _ => *mark = Mark { today: mark.today, ..other },
     }
@@ -126,7 +126,7 @@ fn damage_correction(random: &mut Random, day: &mut Day) -> Option<()> {
     let correction = &mut day.corrections[index];
     match random.below(4) {
         0 => correction.mark = random.pick(&[0, marks - 1, marks, marks + 1, u32::MAX]),
-        1 => correction.price = random.pick(&[0, 1_000_000, 1_000_001, 1_000_100, u32::MAX]),
+        1 => correction.price = random.pick(&[0, PRICE_LIMIT, PRICE_LIMIT + 1, PRICE_LIMIT + 100, u32::MAX]),
         2 => correction.price = correction.price.wrapping_add(random.pick(&[1, 25, 50, 100, u32::MAX])),
         _ => correction.number = other.number,
     }
@@ -139,7 +139,7 @@ fn damage_position(random: &mut Random, day: &mut Day) -> Option<()> {
     let position = &mut day.positions[index];
     match random.below(2) {
         0 => position.mark = random.pick(&[0, marks - 1, marks, marks + 1, u32::MAX]),
-        _ => position.lots = random.pick(&[0, 1_000_000, 1_000_001, -1_000_000, -1_000_001, i32::MIN, i32::MAX]),
+        _ => position.lots = random.pick(&[0, MAX_LOTS, MAX_LOTS + 1, -MAX_LOTS, -MAX_LOTS - 1, i32::MIN, i32::MAX]),
     }
     Some(())
 }

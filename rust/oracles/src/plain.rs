@@ -1,7 +1,7 @@
 //! The settlement of a day file in plain Rust, written from document 01: checks over the records one after the other, and a
 //! clash looked for among all earlier records.
 
-use crate::products::{product, Currency, Product, PRICE_LIMIT};
+use crate::products::{product, Currency, Product, PRICE_LIMIT, YEAR_LIMIT};
 use citronreef::records::*;
 use citronreef::{Refusal, Settled};
 
@@ -49,7 +49,7 @@ pub fn check_marks(marks: &[Mark]) -> Result<Vec<&'static Product>, Refusal> {
     check(4, marks, |mark| product(mark.code).is_none())?;
     let products: Vec<&Product> = marks.iter().filter_map(|mark| product(mark.code)).collect();
     let listed: Vec<(&Mark, &Product)> = marks.iter().zip(products.iter().copied()).collect();
-    check(5, &listed, |(mark, product)| !product.months.contains(&mark.month) || mark.year > 99)?;
+    check(5, &listed, |(mark, product)| !product.months.contains(&mark.month) || mark.year > YEAR_LIMIT)?;
     check(6, &listed, |(mark, _)| mark.previous > PRICE_LIMIT || mark.today > PRICE_LIMIT)?;
     check(7, &listed, |(mark, product)| product.is_off_tick(mark.previous) || product.is_off_tick(mark.today))?;
     Ok(products)

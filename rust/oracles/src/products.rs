@@ -4,6 +4,7 @@
 use citronreef::Refusal;
 
 pub const PRICE_LIMIT: u32 = 1_000_000;
+pub const YEAR_LIMIT: u8 = 99;
 
 /// The ladder's units in 1: eight decimals.
 pub const SCALE: u64 = 100_000_000;

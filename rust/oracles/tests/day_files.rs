@@ -117,7 +117,8 @@ fn every_flipped_bit() {
 fn header_numbers_of_every_size() {
     let mut random = Random::new(6_615_241);
     let file = day_of(&mut random, 3, 4, 5).bytes();
-    let numbers = (0..600).chain([4_095, 4_096, 4_097, 65_536]).chain((0..32).flat_map(|k| [1 << k, u32::MAX >> k]));
+    let limit = MAX_POSITIONS as u32;
+    let numbers = (0..600).chain([limit - 1, limit, limit + 1, 65_536]).chain((0..32).flat_map(|k| [1 << k, u32::MAX >> k]));
     for number in numbers {
         for at in (0..24).step_by(4) {
             let mut edited = file.clone();

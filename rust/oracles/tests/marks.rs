@@ -2,7 +2,7 @@
 
 mod lent;
 
-use citronreef::records::Day;
+use citronreef::records::{Day, MAX_POSITIONS};
 use citronreef::{mark, settle, MarkPrices, Refusal};
 use lent::settled_into;
 use oracles::days::{damage_bytes, damage_record, day};
@@ -60,7 +60,7 @@ fn damaged_files_are_refused_as_by_the_settlement() {
         if random.one_in(4) {
             damage_bytes(&mut random, &mut file);
         }
-        if let Err(refusal) = settled_into(settle, &file, 4_096).0 {
+        if let Err(refusal) = settled_into(settle, &file, MAX_POSITIONS).0 {
             assert_eq!(mark(&file, random.below(4)), Err(refusal));
             refused += 1;
         }

@@ -3,13 +3,13 @@
 
 mod lent;
 
-use citronreef::records::{Correction, Day, MAX_CORRECTIONS, MAX_MARKS, MAX_POSITIONS};
+use citronreef::records::{Correction, Day, MAX_CORRECTIONS, MAX_LOTS, MAX_MARKS, MAX_POSITIONS};
 use citronreef::{settle, Settled};
 use lent::settled_into;
 use oracles::days::{day, day_of, product_of};
 use oracles::exact::is_near;
 use oracles::plain::final_prices;
-use oracles::products::{Product, PRICE_LIMIT, PRODUCTS};
+use oracles::products::{Product, PRICE_LIMIT, PRODUCTS, YEAR_LIMIT};
 use oracles::random::Random;
 
 /// The answer to an accepted day, and its amounts.
@@ -59,11 +59,12 @@ fn distances() {
 /// The distance is small enough to notice an amount that is wrong by a few cents for each lot.
 #[test]
 fn a_wrong_amount_is_not_near() {
+    let most = i64::from(MAX_LOTS);
     for product in &PRODUCTS {
         let (previous, last) = (950_000, 950_100);
         let change = product.value_at(last) as i64 - product.value_at(previous) as i64;
         let wrong_by = product.accuracy as i64 / 500 + 1;
-        for lots in [1, -1, 1_000_000, -1_000_000] {
+        for lots in [1, -1, most, -most] {
             assert!(is_near(product, previous, last, lots, lots * change));
             assert!(!is_near(product, previous, last, lots, lots * (change + wrong_by)));
             assert!(!is_near(product, previous, last, lots, lots * (change - wrong_by)));
@@ -95,7 +96,7 @@ fn signs_after_one_tick() {
         let prices: Vec<u32> = (0..PRICE_LIMIT).step_by(product.tick as usize).collect();
         for chunk in prices.chunks(MAX_MARKS) {
             let mut day = day_of(&mut random, chunk.len(), 0, 0);
-            let contracts = product.months.iter().flat_map(|&month| (0..100).map(move |year| (month, year)));
+            let contracts = product.months.iter().flat_map(|&month| (0..=YEAR_LIMIT).map(move |year| (month, year)));
             for ((mark, &price), (month, year)) in day.marks.iter_mut().zip(chunk).zip(contracts) {
                 (mark.code, mark.month, mark.year) = (product.code, month, year);
                 (mark.previous, mark.today) = (price, price + product.tick);
@@ -133,7 +134,7 @@ fn resend() {
         if first.corrections.is_empty() {
             continue;
         }
-        let most = (MAX_CORRECTIONS - first.corrections.len()).min(if random.one_in(50) { 512 } else { 12 });
+        let most = (MAX_CORRECTIONS - first.corrections.len()).min(if random.one_in(50) { MAX_CORRECTIONS } else { 12 });
         let copies = random.below(most + 1);
         assert_resend(&mut random, &first, copies);
         compared += 1;
@@ -143,7 +144,7 @@ fn resend() {
 #[test]
 fn resend_up_to_the_limit() {
     let mut random = Random::new(48_271);
-    for corrections in [1, 2, 100, 511, 512] {
+    for corrections in [1, 2, 100, MAX_CORRECTIONS - 1, MAX_CORRECTIONS] {
         let first = day_of(&mut random, MAX_MARKS, corrections, MAX_POSITIONS);
         assert_resend(&mut random, &first, MAX_CORRECTIONS - corrections);
     }

@@ -23,7 +23,13 @@ returns : tie.Need-returns
 returns c =
     let p = c .before .before .before .p .given in
     let change = toZ-ofZ {w = w64} {z = p .0 .1 .1 .1 .1 .0} (record { sfits = c .before .before .known-told .given .1 .1 .1 .1 .0 .1 }) in
-    rw (change, c .before .one-if .ensures, c .number-if .ensures, corrects-by (p .0 .1 .1 .0) (p .0 .1 .1 .1 .0) (p .0 .1 .0), number-by (p .0 .1 .1 .0) (p .0 .1 .1 .1 .0) (p .0 .1 .0)) (sym (ap (λ s. markOutcomeOf (said s)) (p .1)))
+    rw (
+      change,
+      c .before .one-if .ensures,
+      c .number-if .ensures,
+      corrects-by (p .0 .1 .1 .0) (p .0 .1 .1 .1 .0) (p .0 .1 .0),
+      number-by (p .0 .1 .1 .0) (p .0 .1 .1 .1 .0) (p .0 .1 .0),
+    ) (sym (ap (λ s. markOutcomeOf (said s)) (p .1)))
 
 returns-2 : tie.Need-returns-2
 returns-2 c = sym (ap (λ s. markOutcomeOf (said s)) (c .before .p2 .given .1))

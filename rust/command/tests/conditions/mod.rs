@@ -2,7 +2,7 @@
 
 use citronreef::records::*;
 use oracles::plain::same_contract;
-use oracles::products::{product, Product};
+use oracles::products::{product, Product, PRICE_LIMIT, YEAR_LIMIT};
 
 /// The whole records that the file has of a section.
 fn records(file: &[u8], start: usize, count: usize) -> Vec<&[u8]> {
@@ -14,7 +14,7 @@ fn off_tick(product: Option<&Product>, price: u32) -> bool {
 }
 
 fn bad_date(mark: &Mark) -> bool {
-    product(mark.code).map_or(true, |product| !product.months.contains(&mark.month)) || mark.year > 99
+    product(mark.code).map_or(true, |product| !product.months.contains(&mark.month)) || mark.year > YEAR_LIMIT
 }
 
 /// The first record that makes a pair with an earlier one.
@@ -45,14 +45,14 @@ pub fn first(file: &[u8], number: u32) -> Option<usize> {
     match number {
         4 => marks.iter().position(|mark| product(mark.code).is_none()),
         5 => marks.iter().position(bad_date),
-        6 => marks.iter().position(|mark| prices(mark).iter().any(|&price| price > 1_000_000)),
+        6 => marks.iter().position(|mark| prices(mark).iter().any(|&price| price > PRICE_LIMIT)),
         7 => marks.iter().position(|mark| prices(mark).iter().any(|&price| off_tick(product(mark.code), price))),
         8 => pair(&marks, same_contract),
         9 => corrections.iter().position(|correction| correction.mark as usize >= marks.len()),
-        10 => corrections.iter().position(|c| c.price > 1_000_000 || off_tick(tick_of(c.mark), c.price)),
+        10 => corrections.iter().position(|c| c.price > PRICE_LIMIT || off_tick(tick_of(c.mark), c.price)),
         11 => pair(&corrections, |earlier, later| earlier.number == later.number && earlier != later),
         12 => positions.iter().position(|position| position.mark as usize >= marks.len()),
-        13 => positions.iter().position(|position| position.lots == 0 || position.lots.unsigned_abs() > 1_000_000),
+        13 => positions.iter().position(|position| position.lots == 0 || position.lots.unsigned_abs() > MAX_LOTS as u32),
         _ => None,
     }
 }

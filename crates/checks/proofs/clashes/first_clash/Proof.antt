@@ -36,7 +36,8 @@ returns c =
     let a = c .before .before .before .before .before .before .before in
     let n = c .before .before .before .before .before .correction-count .ensures in
     let inside : at .i < length (correctionsIn (a .args .corrections .now)) = rw (← n) (c .before .before .before .loop-test .taken) in
-    rw (← n) (sym (first-here _ _ (at .i) (c .before .before .before .loop-test .taken) (at .inv .1) (clashes (correctionsIn (a .args .corrections .now)) (a .pre) inside (at .inv .1) (c .before .clashes-below .ensures)) (c .if1 .taken)))
+    let clash = clashes (correctionsIn (a .args .corrections .now)) (a .pre) inside (at .inv .1) (c .before .clashes-below .ensures) in
+    rw (← n) (sym (first-here _ _ (at .i) (c .before .before .before .loop-test .taken) (at .inv .1) clash (c .if1 .taken)))
 
 add-i : tie.Need-add-i Inv-loop μ-loop
 add-i c = omega arith
@@ -48,7 +49,8 @@ loop-again : tie.Need-loop-again Inv-loop μ-loop
 loop-again c =
     let at = c .before .before .before .before .loop in
     let a = c .before .before .before .before .before .before .before in
-    let inside : at .i < length (correctionsIn (a .args .corrections .now)) = rw (← c .before .before .before .before .before .correction-count .ensures) (c .before .before .before .loop-test .taken) in
+    let n = c .before .before .before .before .before .correction-count .ensures in
+    let inside : at .i < length (correctionsIn (a .args .corrections .now)) = rw (← n) (c .before .before .before .loop-test .taken) in
     (omega arith, first-more _ _ (at .inv .1) (clashes (correctionsIn (a .args .corrections .now)) (a .pre) inside (at .inv .1) (c .before .clashes-below .ensures)) (c .if1 .left))
 
 returns-2 : tie.Need-returns-2 Inv-loop μ-loop

@@ -42,7 +42,8 @@ loop-again c =
     let at = c .before .before .before .before .loop in
     let a = c .before .before .before .before .before .before .before .args in
     let inside : at .i < length (correctionsIn (a .corrections .now)) = rw (← c .before .before .before .before .before .correction-count .ensures) (c .before .before .before .loop-test .taken) in
-    (omega arith, rw (add-one, c .one-if .ensures .0, repeats (correctionsIn (a .corrections .now)) (c .before .before .before .before .before .before .before .pre) inside (c .before .is-some .ensures), at .inv .1))
+    let r = repeats (correctionsIn (a .corrections .now)) (c .before .before .before .before .before .before .before .pre) inside (c .before .is-some .ensures) in
+    (omega arith, rw (add-one, c .one-if .ensures .0, r, at .inv .1))
 
 returns : tie.Need-returns Inv-loop μ-loop
 returns c = rw (← c .before .before .correction-count .ensures) (at-end (count _) (c .before .loop .inv .1) (c .before .loop .inv .0 .0) (c .loop-test .left))

@@ -16,18 +16,30 @@ use Rattle.checks.proofs.corrections.check_corrections.Tie as tie
 returns : tie.Need-returns
 returns c =
     let a = c .before .before .before .before .before .args in
-    too-many-corrections fileLimits (marksIn (a .marks .now)) (correctionsIn (a .corrections .now)) (rw (← c .before .before .mark-count .ensures, ← c .before .correction-count .ensures) (c .if1 .taken))
+    too-many-corrections fileLimits (marksIn (a .marks .now)) (correctionsIn (a .corrections .now))
+    (rw (← c .before .before .mark-count .ensures, ← c .before .correction-count .ensures) (c .if1 .taken))
 
 some-fault-requires : tie.Need-some-fault-requires
-some-fault-requires c κs = (rw (← c .before .before .before .mark-count .ensures) (ltb-false (fileLimits .marks) _ (or-left (ltb (fileLimits .marks) (c .before .before .before .mark-count .result)) _ (c .before .if1 .left))), search needs)
+some-fault-requires c κs = (
+  rw (← c .before .before .before .mark-count .ensures) (ltb-false (fileLimits .marks) _ (or-left (ltb (fileLimits .marks) (c .before .before .before .mark-count .result)) _ (c .before .if1 .left))),
+  search needs,
+)
 
 decide-corrections-requires : tie.Need-decide-corrections-requires
-decide-corrections-requires c κs = (c .before .some-fault .ensures .1, rw (← c .before .before .before .before .correction-count .ensures) (ltb-false (fileLimits .corrections) _ (or-right (ltb (fileLimits .marks) (c .before .before .before .before .before .mark-count .result)) _ (c .before .before .before .if1 .left))))
+decide-corrections-requires c κs = (
+  c .before .some-fault .ensures .1,
+  rw (← c .before .before .before .before .correction-count .ensures)
+      (ltb-false (fileLimits .corrections) _ (or-right (ltb (fileLimits .marks) (c .before .before .before .before .before .mark-count .result)) _ (c .before .before .before .if1 .left))),
+)
 
 returns-2 : tie.Need-returns-2
 returns-2 c =
     let a = c .before .before .before .before .before .before .before .before .before .args in
-    not-many-corrections fileLimits (marksIn (a .marks .now)) (correctionsIn (a .corrections .now)) (rw (← c .before .before .before .before .before .before .mark-count .ensures, ← c .before .before .before .before .before .correction-count .ensures) (c .before .before .before .before .if1 .left)) (c .decide-corrections .ensures .0 ∙ decision-all (correctionChecks (marksIn (a .marks .now)) (correctionsIn (a .corrections .now)))) (c .decide-corrections .ensures .1)
+    let k = c .before .before .before .before in
+    not-many-corrections fileLimits (marksIn (a .marks .now)) (correctionsIn (a .corrections .now))
+    (rw (← k .before .before .mark-count .ensures, ← k .before .correction-count .ensures) (k .if1 .left))
+    (c .decide-corrections .ensures .0 ∙ decision-all (correctionChecks (marksIn (a .marks .now)) (correctionsIn (a .corrections .now))))
+    (c .decide-corrections .ensures .1)
 
 pub check-corrections-spec : {M : Type 1} → statement M
 check-corrections-spec =

@@ -9,7 +9,9 @@ use Rattle.checks.proofs.corrections.faults.Statement.{statement}
 use Rattle.checks.proofs.corrections.faults.Tie as tie
 
 returns : tie.Need-returns
-returns c = let a = c .before .before .before .before .args in without-mark (marksIn (a .marks .now)) (a .c) (omega (arith, c .before .before .mark-count .ensures, c .before .if1 .taken)) (c .above-limit .ensures)
+returns c =
+    let a = c .before .before .before .before .args in
+    without-mark (marksIn (a .marks .now)) (a .c) (omega (arith, c .before .before .mark-count .ensures, c .before .if1 .taken)) (c .above-limit .ensures)
 
 mul-off-tick : tie.Need-mul-off-tick
 mul-off-tick c = omega (arith, c .before .before .mark-count .ensures, c .before .before .before .before .pre .few)

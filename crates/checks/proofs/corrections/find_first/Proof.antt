@@ -32,8 +32,11 @@ loop-again : tie.Need-loop-again Inv-loop μ-loop
 loop-again c =
     let at = c .before .before .before .before .loop in
     let a = c .before .before .before .before .before .before .before .before .args in
-    let ms = marksIn (a .marks .now) in
-    (omega arith, correction-more ms (correctionsIn (a .corrections .now)) (at .i) (at .inv .1) (c .before .faults .ensures ∙ ap (correctionFaults ms) (c .before .before .correction-at .ensures)) (c .with-correction .ensures))
+    let ms = marksIn (a .marks .now) in (
+      omega arith,
+      correction-more ms (correctionsIn (a .corrections .now)) (at .i) (at .inv .1)
+          (c .before .faults .ensures ∙ ap (correctionFaults ms) (c .before .before .correction-at .ensures)) (c .with-correction .ensures),
+    )
 
 returns : tie.Need-returns Inv-loop μ-loop
 returns c =

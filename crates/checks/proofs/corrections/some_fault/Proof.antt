@@ -33,8 +33,11 @@ loop-again : tie.Need-loop-again Inv-loop μ-loop
 loop-again c =
     let at = c .before .before .before .before .loop in
     let a = c .before .before .before .before .before .before .before .before .args in
-    let ms = marksIn (a .marks .now) in
-    (omega arith, some-next (λ k. anyCorrectionFault (correctionFaults ms (correctionAt (correctionsIn (a .corrections .now)) k))) (at .i) (at .inv .1) (c .any-fault .ensures ∙ ap anyCorrectionFault (c .before .faults .ensures ∙ ap (correctionFaults ms) (c .before .before .correction-at .ensures))))
+    let ms = marksIn (a .marks .now) in (
+      omega arith,
+      some-next (λ k. anyCorrectionFault (correctionFaults ms (correctionAt (correctionsIn (a .corrections .now)) k))) (at .i) (at .inv .1)
+          (c .any-fault .ensures ∙ ap anyCorrectionFault (c .before .faults .ensures ∙ ap (correctionFaults ms) (c .before .before .correction-at .ensures))),
+    )
 
 returns : tie.Need-returns Inv-loop μ-loop
 returns c =

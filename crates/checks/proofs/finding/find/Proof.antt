@@ -20,7 +20,9 @@ returns-2 : tie.Need-returns-2
 returns-2 c =
     let k = c .before .before .before in
     let s = k .before .before .before .before .before .before in
-    found-in-file _ (sym (s .counted .ensures) ∙ k .before .before .before .before .d .given .1) (k .before .before .marks-in .ensures) (k .before .corrections-in .ensures) (k .positions-in .ensures) _ (s .before .decide-header .ensures) (c .before .before .decide-one .ensures) (c .before .or .ensures) (c .found2 .ensures)
+    found-in-file _ (sym (s .counted .ensures) ∙ k .before .before .before .before .d .given .1)
+    (k .before .before .marks-in .ensures) (k .before .corrections-in .ensures) (k .positions-in .ensures)
+    _ (s .before .decide-header .ensures) (c .before .before .decide-one .ensures) (c .before .or .ensures) (c .found2 .ensures)
 
 pub find-spec : {M : Type 1} → statement M
 find-spec =

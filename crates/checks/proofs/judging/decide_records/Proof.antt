@@ -18,8 +18,11 @@ returns : tie.Need-returns
 returns c =
     let k = c .before .before in
     let s = k .before in
-    let a = s .before .before .before .before .before .before .before .args in
-    (records-decided (listsOf (a .marks .now) (a .corrections .now) (a .positions .now)) _ (s .before .before .decide-marks .ensures .0) (s .decide-corrections .ensures .0) (k .decide-positions .ensures) (c .before .or .ensures) (c .or2 .ensures), s .decide-corrections .ensures .1)
+    let a = s .before .before .before .before .before .before .before .args in (
+      records-decided (listsOf (a .marks .now) (a .corrections .now) (a .positions .now)) _
+          (s .before .before .decide-marks .ensures .0) (s .decide-corrections .ensures .0) (k .decide-positions .ensures) (c .before .or .ensures) (c .or2 .ensures),
+      s .decide-corrections .ensures .1,
+    )
 
 pub decide-records-spec : {M : Type 1} → statement M
 decide-records-spec =

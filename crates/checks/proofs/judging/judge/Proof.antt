@@ -8,7 +8,8 @@ use Rattle.checks.proofs.judging.judge.Tie as tie
 judge-records-requires : tie.Need-judge-records-requires
 judge-records-requires c κs =
     let s = c .before .before .before .before .before .before in
-    opened-small (s .before .before .args .file .now) (sym (s .open-file .ensures) ∙ c .before .before .before .before .d .given .1) (c .before .before .marks-in .ensures) (c .before .corrections-in .ensures) (c .positions-in .ensures)
+    opened-small (s .before .before .args .file .now) (sym (s .open-file .ensures) ∙ c .before .before .before .before .d .given .1)
+    (c .before .before .marks-in .ensures) (c .before .corrections-in .ensures) (c .positions-in .ensures)
 
 returns : tie.Need-returns
 returns c = judged-refused _ (sym (c .before .before .before .open-file .ensures) ∙ c .before .k .given .1)
@@ -16,7 +17,8 @@ returns c = judged-refused _ (sym (c .before .before .before .open-file .ensures
 returns-2 : tie.Need-returns-2
 returns-2 c =
     let s = c .before .before .before .before .before .before .before in
-    judged-opened (s .before .before .args .file .now) (sym (s .open-file .ensures) ∙ c .before .before .before .before .before .d .given .1) (c .before .before .before .marks-in .ensures) (c .before .before .corrections-in .ensures) (c .before .positions-in .ensures) (c .judge-records .ensures)
+    judged-opened (s .before .before .args .file .now) (sym (s .open-file .ensures) ∙ c .before .before .before .before .before .d .given .1)
+    (c .before .before .before .marks-in .ensures) (c .before .before .corrections-in .ensures) (c .before .positions-in .ensures) (c .judge-records .ensures)
 
 pub judge-spec : {M : Type 1} → statement M
 judge-spec =

@@ -19,7 +19,8 @@ returns-2 : tie.Need-returns-2
 returns-2 c =
     let s = c .before .before in
     let a = s .before .before .before .before .args in
-    judged-by _ _ (s .decide-records .ensures .0 ∙ decision-all (recordChecks (listsOf (a .marks .now) (a .corrections .now) (a .positions .now)))) (c .enum-told .given .1) (ap (Sound (a .counts)) (s .decide-records .ensures .1))
+    judged-by _ _ (s .decide-records .ensures .0 ∙ decision-all (recordChecks (listsOf (a .marks .now) (a .corrections .now) (a .positions .now))))
+    (c .enum-told .given .1) (ap (Sound (a .counts)) (s .decide-records .ensures .1))
 
 pub judge-records-spec : {M : Type 1} → statement M
 judge-records-spec =

@@ -16,7 +16,10 @@ use Rattle.checks.proofs.marks.some_fault.Statement.{statement}
 use Rattle.checks.proofs.marks.some_fault.Tie as tie
 
 abbrev Inv-loop : tie.InvT-loop
-Inv-loop marks ticks₀ n bad₀ i₀ ticks bad i = ((i ≤ n) × (length ticks ≡ fileLimits .marks)) × (bad ≡ some (λ k. anyMarkFault (markFaults (markAt (marksIn marks) k))) i) × Holds 0 (tickAt (marksIn marks)) i ticks
+Inv-loop marks ticks₀ n bad₀ i₀ ticks bad i =
+    ((i ≤ n) × (length ticks ≡ fileLimits .marks))
+    × (bad ≡ some (λ k. anyMarkFault (markFaults (markAt (marksIn marks) k))) i)
+    × Holds 0 (tickAt (marksIn marks)) i ticks
 
 abbrev μ-loop : tie.MeasureT-loop
 μ-loop marks ticks₀ n bad₀ i₀ ticks bad i = n - i
@@ -25,10 +28,22 @@ loop-holds : tie.Need-loop-holds Inv-loop μ-loop
 loop-holds c = ((search needs, c .before .before .pre .1), some-start _, holds-none)
 
 mul-ticks : tie.Need-mul-ticks Inv-loop μ-loop
-mul-ticks c = omega (arith, c .before .before .before .loop-test .taken, c .before .before .before .before .before .mark-count .ensures, c .before .before .before .before .before .before .before .pre .0)
+mul-ticks c =
+    omega (
+      arith,
+      c .before .before .before .loop-test .taken,
+      c .before .before .before .before .before .mark-count .ensures,
+      c .before .before .before .before .before .before .before .pre .0,
+    )
 
 element-write-ticks : tie.Need-element-write-ticks Inv-loop μ-loop
-element-write-ticks c = omega (arith, c .before .before .before .loop-test .taken, c .before .before .before .before .before .mark-count .ensures, c .before .before .before .before .before .before .before .pre .0)
+element-write-ticks c =
+    omega (
+      arith,
+      c .before .before .before .loop-test .taken,
+      c .before .before .before .before .before .mark-count .ensures,
+      c .before .before .before .before .before .before .before .pre .0,
+    )
 
 add-i : tie.Need-add-i Inv-loop μ-loop
 add-i c = omega arith

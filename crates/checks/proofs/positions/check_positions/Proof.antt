@@ -29,7 +29,9 @@ returns-2 c =
     let a = c .before .before .before .before .before .before .args in
     let ms = marksIn (a .marks .now) in
     let ps = positionsIn (a .positions .now) in
-    not-many (tooManyPositions fileLimits ms ps) (positionChecks ms ps) (rw (← c .before .before .before .mark-count .ensures, ← c .before .before .position-count .ensures) (c .before .if1 .left)) (c .decide-positions .ensures ∙ decision-all (positionChecks ms ps))
+    not-many (tooManyPositions fileLimits ms ps) (positionChecks ms ps)
+    (rw (← c .before .before .before .mark-count .ensures, ← c .before .before .position-count .ensures) (c .before .if1 .left))
+    (c .decide-positions .ensures ∙ decision-all (positionChecks ms ps))
 
 pub check-positions-spec : {M : Type 1} → statement M
 check-positions-spec =

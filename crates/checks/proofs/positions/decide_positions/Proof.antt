@@ -7,10 +7,14 @@ use Rattle.checks.proofs.positions.decide_positions.Statement.{statemen
 use Rattle.checks.proofs.positions.decide_positions.Tie as tie
 
 returns : tie.Need-returns
-returns c = let a = c .before .before .before .before .before .before .args in positions-decided (marksIn (a .marks .now)) (positionsIn (a .positions .now)) _ (c .before .find-first .ensures) (c .decide .ensures)
+returns c =
+    let a = c .before .before .before .before .before .before .args in
+    positions-decided (marksIn (a .marks .now)) (positionsIn (a .positions .now)) _ (c .before .find-first .ensures) (c .decide .ensures)
 
 returns-2 : tie.Need-returns-2
-returns-2 c = let a = c .before .before .before .before .args in sym (positions-clear (marksIn (a .marks .now)) (positionsIn (a .positions .now)) (sym (c .before .some-fault .ensures) ∙ c .if1 .left) _)
+returns-2 c =
+    let a = c .before .before .before .before .args in
+    sym (positions-clear (marksIn (a .marks .now)) (positionsIn (a .positions .now)) (sym (c .before .some-fault .ensures) ∙ c .if1 .left) _)
 
 pub decide-positions-spec : {M : Type 1} → statement M
 decide-positions-spec =

@@ -31,7 +31,10 @@ loop-again c =
     let at = c .before .before .before .before .loop in
     let a = c .before .before .before .before .before .before .before .before .before .before .args in
     let ms = marksIn (a .marks .now) in
-    (omega arith, position-more ms (positionsIn (a .positions .now)) (at .i) (at .inv .1) (raw-faults ms (a .positions .now) (at .i) (c .before .before .before .before .before .before .narrow .ensures ∙ c .before .before .before .before .before .before .before .mark-count .ensures) (c .before .before .raw-position-at .ensures) (search needs) (c .before .faults .ensures)) (c .with-position .ensures))
+    let ps = a .positions .now in
+    let n = c .before .before .before .before .before .before .narrow .ensures ∙ c .before .before .before .before .before .before .before .mark-count .ensures in
+    let f = raw-faults ms ps (at .i) n (c .before .before .raw-position-at .ensures) (search needs) (c .before .faults .ensures) in
+    (omega arith, position-more ms (positionsIn ps) (at .i) (at .inv .1) f (c .with-position .ensures))
 
 returns : tie.Need-returns Inv-loop μ-loop
 returns c =

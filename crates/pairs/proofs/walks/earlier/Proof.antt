@@ -10,7 +10,9 @@ use Rattle.pairs.proofs.walks.earlier.Statement.{statement}
 use Rattle.pairs.proofs.walks.earlier.Tie as tie
 
 -- how many places are filled
-counted : (c : tie.After-smaller) → c .smaller .result ≡ least (lookedAt (c .before .before .before .before .args .key) (c .before .before .before .before .args .size) (c .before .before .before .before .args .records .now)) (length (c .before .before .before .before .args .found .now))
+counted : (c : tie.After-smaller) → c .smaller .result
+    ≡ least (lookedAt (c .before .before .before .before .args .key) (c .before .before .before .before .args .size) (c .before .before .before .before .args .records .now))
+    (length (c .before .before .before .before .args .found .now))
 counted c = by-one (λ m. least m (length (c .before .before .before .before .args .found .now))) (c .smaller .ensures) (c .before .looked-at .ensures)
 
 earlier-small-requires : tie.Need-earlier-small-requires

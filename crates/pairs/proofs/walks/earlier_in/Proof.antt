@@ -28,7 +28,11 @@ loop-holds : tie.Need-loop-holds Inv-loop μ-loop
 loop-holds c = let p = c .before .before .before .before .pre in ((omega arith, refl, refl, refl), tree-start (p .1) (p .2), refl)
 
 walk-requires : tie.Need-walk-requires Inv-loop μ-loop
-walk-requires c κs = let at = c .before .before .loop in (at .inv .1 .grown, rw (at .inv .0 .1) (room-for (at .i) (c .before .loop-test .taken) (c .before .before .before .before .before .before .before .pre .0)))
+walk-requires c κs =
+    let at = c .before .before .loop in (
+      at .inv .1 .grown,
+      rw (at .inv .0 .1) (room-for (at .i) (c .before .loop-test .taken) (c .before .before .before .before .before .before .before .pre .0)),
+    )
 
 node-requires : tie.Need-node-requires Inv-loop μ-loop
 node-requires c κs = omega (arith, c .wide .ensures, c .before .before .before .before .before .loop .inv .1 .grown .filled (c .before .before .walk .result))

@@ -7,7 +7,14 @@ use Rattle.pairs.proofs.walks.earlier_large.Statement.{statement}
 use Rattle.pairs.proofs.walks.earlier_large.Tie as tie
 
 earlier-in-requires : tie.Need-earlier-in-requires
-earlier-in-requires c κs = let p = c .before .before .before .before .before .pre in (room-in 4096 12288 (p .0) (omega arith) (omega arith) (omega (arith, c .before .before .before .before .before .pre .0 .few)), zeros 12288, zeros 4096, omega (arith, c .before .before .before .before .before .pre .0 .few), p .1)
+earlier-in-requires c κs =
+    let p = c .before .before .before .before .before .pre in (
+      room-in 4096 12288 (p .0) (omega arith) (omega arith) (omega (arith, c .before .before .before .before .before .pre .0 .few)),
+      zeros 12288,
+      zeros 4096,
+      omega (arith, c .before .before .before .before .before .pre .0 .few),
+      p .1,
+    )
 
 pub earlier-large-spec : {M : Type 1} → statement M
 earlier-large-spec =

@@ -7,7 +7,14 @@ use Rattle.pairs.proofs.walks.earlier_middle.Statement.{statement}
 use Rattle.pairs.proofs.walks.earlier_middle.Tie as tie
 
 earlier-in-requires : tie.Need-earlier-in-requires
-earlier-in-requires c κs = let p = c .before .before .before .before .before .pre in (room-in 512 1536 (p .0) (omega arith) (omega arith) (omega (arith, c .before .before .before .before .before .pre .2)), zeros 1536, zeros 512, omega (arith, c .before .before .before .before .before .pre .2), p .1)
+earlier-in-requires c κs =
+    let p = c .before .before .before .before .before .pre in (
+      room-in 512 1536 (p .0) (omega arith) (omega arith) (omega (arith, c .before .before .before .before .before .pre .2)),
+      zeros 1536,
+      zeros 512,
+      omega (arith, c .before .before .before .before .before .pre .2),
+      p .1,
+    )
 
 pub earlier-middle-spec : {M : Type 1} → statement M
 earlier-middle-spec =

@@ -7,7 +7,14 @@ use Rattle.pairs.proofs.walks.earlier_small.Statement.{statement}
 use Rattle.pairs.proofs.walks.earlier_small.Tie as tie
 
 earlier-in-requires : tie.Need-earlier-in-requires
-earlier-in-requires c κs = let p = c .before .before .before .before .before .pre in (room-in 32 96 (p .0) (omega arith) (omega arith) (omega (arith, c .before .before .before .before .before .pre .2)), zeros 96, zeros 32, omega (arith, c .before .before .before .before .before .pre .2), p .1)
+earlier-in-requires c κs =
+    let p = c .before .before .before .before .before .pre in (
+      room-in 32 96 (p .0) (omega arith) (omega arith) (omega (arith, c .before .before .before .before .before .pre .2)),
+      zeros 96,
+      zeros 32,
+      omega (arith, c .before .before .before .before .before .pre .2),
+      p .1,
+    )
 
 pub earlier-small-spec : {M : Type 1} → statement M
 earlier-small-spec =

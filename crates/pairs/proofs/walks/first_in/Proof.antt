@@ -37,7 +37,8 @@ module _ (c : tie.After-wide Inv-loop μ-loop) where
   abbrev held : ℕ
   held = getD (c .before .before .before .before .before .loop .place) (c .before .before .walk .result) 0
 
-  pair : not (eqb held 0) ≡ repeating (sameKeyIn (c .before .before .before .before .before .before .before .before .args .key) (c .before .before .before .before .before .before .before .before .args .size) (c .before .before .before .before .before .before .before .before .args .records .now)) (c .before .before .before .before .before .loop .i)
+  pair : let a = c .before .before .before .before .before .before .before .before .args in
+      not (eqb held 0) ≡ repeating (sameKeyIn (a .key) (a .size) (a .records .now)) (c .before .before .before .before .before .loop .i)
   pair = alone-finds (c .before .before .before .before .before .loop .inv .2) (c .before .before .walk .ensures .0) (c .before .before .walk .ensures .1)
 
 same-length : tie.Need-same-length Inv-loop μ-loop

@@ -39,7 +39,11 @@ loop-holds c =
     )
 
 key-at-requires-2 : tie.Need-key-at-requires-2 Inv-loop μ-loop
-key-at-requires-2 c κs = let room = c .before .before .before .before .before .before .before .before .before .pre .1 in (room .keyed .wide (omega arith), omega (arith, room .keyed .whole, c .before .loop .inv .2, c .loop-test .taken))
+key-at-requires-2 c κs =
+    let room = c .before .before .before .before .before .before .before .before .before .pre .1 in (
+      room .keyed .wide (omega arith),
+      omega (arith, room .keyed .whole, c .before .loop .inv .2, c .loop-test .taken),
+    )
 
 returns : tie.Need-returns Inv-loop μ-loop
 returns c =
@@ -59,8 +63,9 @@ loop-again : tie.Need-loop-again Inv-loop μ-loop
 loop-again c =
     let s = c .before .before .before .before .before .before .before .before .before .before .before .before .before in
     let at = c .before .before .before .before .before .loop in
+    let x = c .before .before .before .before .before .before .before .before .before .before .key-at .ensures in
     let e : getD (s .args .place .now) (at .at) 0 ≡ suc (at .k - 1) = omega (arith, at .inv .1, c .before .before .before .before .loop-test .taken) in (
-      leads-on e (λ q. c .before .before .if1 .left (c .before .before .before .key-at2 .ensures ∙ q ∙ sym (c .before .before .before .before .before .before .before .before .before .before .key-at .ensures))) (at .inv .0),
+      leads-on e (λ q. c .before .before .if1 .left (c .before .before .before .key-at2 .ensures ∙ q ∙ sym x)) (at .inv .0),
       c .wide2 .ensures,
       omega (arith, c .wide2 .ensures, s .pre .0 .filled (s .args .roots + 2 * (at .k - 1) + at .rest % 2)),
       omega (arith, c .before .before .before .before .loop-test .taken, at .inv .2),

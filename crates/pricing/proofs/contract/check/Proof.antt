@@ -10,7 +10,9 @@ returns c = rw (← c .before .before .before .before .before .before .lookup .e
 
 returns-2 : tie.Need-returns-2
 unfolding checkOf
-returns-2 c = rw (← c .before .before .before .before .before .before .before .lookup .ensures, c .before .before .before .before .before .q .given .1, ← c .before .before .before .judge .ensures, c .before .k .given .1)
+returns-2 c =
+    let s = c .before .before .before in
+    rw (← s .before .before .before .before .lookup .ensures, s .before .before .q .given .1, ← s .judge .ensures, c .before .k .given .1)
 
 returns-3 : tie.Need-returns-3
 unfolding checkOf

@@ -49,9 +49,10 @@ returns-2 : tie.Need-returns-2
 unfolding tickValueOf priceLimit
 returns-2 c =
     let x = c .before .before .before .before .terms .given in
+    let s = c .before .before .before .before .before .before in
     let v = c .before .two-at .ensures in
     rw (v .0, v .1)
-    (within (c .before .before .before .before .before .before .before .args .p) (x .0 .0) (x .0 .1 .0) (c .before .before .if1 .left) ∙ by-checked _ _ (c .before .before .before .before .before .before .check .ensures) (answer _) (x .1))
+    (within (s .before .args .p) (x .0 .0) (x .0 .1 .0) (c .before .before .if1 .left) ∙ by-checked _ _ (s .check .ensures) (answer _) (x .1))
 
 returns-3 : tie.Need-returns-3
 unfolding tickValueOf

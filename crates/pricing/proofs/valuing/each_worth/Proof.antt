@@ -3,8 +3,7 @@ use Prim.Native.Nat.{_-_}
 use mathlib.Core.Path.{refl}
 use lib.ListN.{getD}
 use Rattle.pricing.specs.Value.{valueBy}
-use Rattle.pricing.specs.Calls.{judged}
-use Rattle.pricing.specs.Steps.{ifPassed}
+use Rattle.pricing.specs.Steps.{judged, ifPassed}
 use Rattle.pricing.specs.Calls.{lanes}
 use Rattle.numbers.proofs.Held.{Done, none-done, one-more, all-done}
 use borrow.Author.Needs.{needs}

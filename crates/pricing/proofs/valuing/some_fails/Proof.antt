@@ -6,8 +6,7 @@ use lib.ListN.{getD}
 use Rattle.numbers.specs.Folds.{some}
 use Rattle.numbers.proofs.Chain.{at-end}
 use Rattle.numbers.proofs.Searches.{some-start, some-next}
-use Rattle.pricing.specs.Calls.{judged}
-use Rattle.pricing.specs.Steps.{isFailed}
+use Rattle.pricing.specs.Steps.{judged, isFailed}
 use Rattle.pricing.specs.Calls.{lanes}
 use borrow.Author.Needs.{needs}
 use Rattle.pricing.proofs.valuing.some_fails.Statement.{statement}

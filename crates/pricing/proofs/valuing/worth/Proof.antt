@@ -1,7 +1,7 @@
 -- By the lookup: a product's terms are modest, and its value after checks 6 and 7, or 0, is the number of the call's answer
 -- (`worth-by-judged`).
 use mathlib.Core.Path.{_∙_}
-use Rattle.pricing.specs.Calls.{judged, valueOf}
+use Rattle.pricing.specs.Calls.{valueOf}
 use Rattle.pricing.proofs.Lines.{sound}
 use Rattle.pricing.proofs.SideBySide.{worth-by-judged}
 use borrow.Author.Needs.{needs}
@@ -16,7 +16,7 @@ unfolding valueOf
 returns c =
     let q = c .before .before .q .given in
     let p = c .before .before .before .before .before .args .p in
-    rw (← c .before .before .before .before .lookup .ensures, q .1) (c .worth-by .ensures ∙ worth-by-judged (q .0 .0 .terms) p (judged (q .0 .0 .tick) p))
+    rw (← c .before .before .before .before .lookup .ensures, q .1) (c .worth-by .ensures ∙ worth-by-judged (q .0 .0 .terms) (q .0 .0 .tick) p)
 
 returns-2 : tie.Need-returns-2
 unfolding valueOf

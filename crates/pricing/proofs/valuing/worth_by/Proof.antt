@@ -1,5 +1,5 @@
 -- By checks 6 and 7: a price that passes them is within the limit, as `value_at` asks.
-use Rattle.pricing.proofs.Answers.{passed}
+use Rattle.pricing.proofs.Judging.{passed}
 use borrow.Author.Needs.{needs}
 use Rattle.pricing.proofs.valuing.worth_by.Statement.{statement}
 use Rattle.pricing.proofs.valuing.worth_by.Tie as tie

@@ -11,7 +11,8 @@ unfolding totalLine
 returns c =
     let aud = c .before .before .before .before .before .before .before .before .before .before .cents in
     let nzd = c .before .before .before .before .cents2 in
-    writes-then (rw (back (aud .result) (aud .ok) ∙ aud .ensures) at (c .before .before .before .before .before .before .before .before .write-total .ensures)) (rw (back (nzd .result) (nzd .ok) ∙ nzd .ensures) at (c .before .before .write-total2 .ensures))
+    writes-then (rw (back (aud .result) (aud .ok) ∙ aud .ensures) at (c .before .before .before .before .before .before .before .before .write-total .ensures))
+    (rw (back (nzd .result) (nzd .ok) ∙ nzd .ensures) at (c .before .before .write-total2 .ensures))
 
 pub write-totals-spec : {M : Type 1} → statement M
 write-totals-spec =

@@ -9,7 +9,8 @@ use Rattle.report.proofs.fields.write_number.Tie as tie
 
 returns : tie.Need-returns
 returns c =
-    writes-then (fitted-writes (decimal _) (rw (c .before .before .before .before .before .before .before .before .before .pre, by-pairs) at (c .before .before .before .before .before .before .write-decimal .ensures)))
+    let is = c .before .before .before .before .before .before .before .before .before .pre in
+    writes-then (fitted-writes (decimal _) (rw (is, by-pairs) at (c .before .before .before .before .before .before .write-decimal .ensures)))
     (fitted-writes (_ ∷ []) (c .before .before .write-byte .ensures))
 
 pub write-number-spec : {M : Type 1} → statement M

@@ -7,7 +7,8 @@ use Rattle.report.proofs.positions.write_line.Tie as tie
 
 returns : tie.Need-returns
 returns c =
-    writes-then (c .before .before .before .before .before .before .write-number .ensures) (rw (toZ-ofZ {w = w64} (c .before .before .before .before .before .before .before .before .before .before .fits .amount)) at (c .before .before .write-rest .ensures))
+    writes-then (c .before .before .before .before .before .before .write-number .ensures)
+    (rw (toZ-ofZ {w = w64} (c .before .before .before .before .before .before .before .before .before .before .fits .amount)) at (c .before .before .write-rest .ensures))
 
 pub write-line-spec : {M : Type 1} → statement M
 write-line-spec =

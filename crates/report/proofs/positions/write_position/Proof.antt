@@ -15,7 +15,10 @@ write-line-requires c κs =
 
 returns : tie.Need-returns
 returns c =
-    rw (c .before .before .before .before .before .before .position-at .ensures, toZ-ofZ {w = w64} (record { sfits = c .before .before .before .before .write-line-arg .given })) at (c .before .before .write-line .ensures)
+    rw (
+      c .before .before .before .before .before .before .position-at .ensures,
+      toZ-ofZ {w = w64} (record { sfits = c .before .before .before .before .write-line-arg .given }),
+    ) at (c .before .before .write-line .ensures)
 
 pub write-position-spec : {M : Type 1} → statement M
 write-position-spec =

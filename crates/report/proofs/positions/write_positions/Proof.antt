@@ -26,15 +26,21 @@ loop-holds c = (search needs, writes-none _)
 
 write-position-requires : tie.Need-write-position-requires Inv-loop μ-loop
 write-position-requires c κs =
-    let s = c .before .before .before .before .before .before .before .before .before .before in
-    (s .pre .0, omega arith, words-here (s .args .marks .now) (λ i. omega (arith, c .before .before .before .before .before .before .before .before .before .shared-slice-known .given i)) (omega arith) (c .before .before .before .before .before .write-words .ensures) _ (s .pre .3 (c .before .before .before .loop .i) (c .before .before .loop-test .taken)))
+    let s = c .before .before .before .before .before .before .before .before .before .before in (
+      s .pre .0,
+      omega arith,
+      words-here (s .args .marks .now) (λ i. omega (arith, c .before .before .before .before .before .before .before .before .before .shared-slice-known .given i))
+          (omega arith) (c .before .before .before .before .before .write-words .ensures) _ (s .pre .3 (c .before .before .before .loop .i) (c .before .before .loop-test .taken)),
+    )
 
 loop-again : tie.Need-loop-again Inv-loop μ-loop
 loop-again c =
     let s = c .before .before .before .before .before .before .before .before .before .before .before .before .before in (
       search needs,
       (writes-more _ (c .before .before .before .before .before .before .loop .i) (c .before .before .before .before .before .before .loop .inv .1) (writes-as
-          (line-here (s .args .marks .now) (λ i. omega (arith, c .before .before .before .before .before .before .before .before .before .before .before .before .shared-slice-known .given i)) (omega arith) (c .before .before .before .before .before .before .before .before .write-words .ensures) _ (s .pre .3 (c .before .before .before .before .before .before .loop .i) (c .before .before .before .before .before .loop-test .taken)) _ _)
+          (line-here (s .args .marks .now) (λ i. omega (arith, c .before .before .before .before .before .before .before .before .before .before .before .before .shared-slice-known .given i))
+          (omega arith) (c .before .before .before .before .before .before .before .before .write-words .ensures)
+          _ (s .pre .3 (c .before .before .before .before .before .before .loop .i) (c .before .before .before .before .before .loop-test .taken)) _ _)
           (c .before .before .write-position .ensures))),
     )
 

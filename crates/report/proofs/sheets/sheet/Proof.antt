@@ -20,7 +20,8 @@ returns-2 : tie.Need-returns-2
 returns-2 c =
     let s = c .before .before .before .before .before .before .before .before .before .before .before .args in
     let r = c .before .before .before .before .before .before .settle in
-    sheet-written (s .file .now) (s .amounts .now) (r .last .1 .0) (r .result) (λ i. omega (arith, c .before .before .before .before .before .before .before .before .before .before .shared-slice-known .given i)) (omega arith)
+    sheet-written (s .file .now) (s .amounts .now) (r .last .1 .0) (r .result)
+    (λ i. omega (arith, c .before .before .before .before .before .before .before .before .before .before .shared-slice-known .given i)) (omega arith)
     (r .kept .1 .0) (r .ensures .0) (r .ensures .1) (c .before .before .write-sheet .ensures)
 
 pub sheet-spec : {M : Type 1} → statement M

@@ -16,7 +16,8 @@ returns c =
 returns-2 : tie.Need-returns-2
 returns-2 c =
     let s = c .before .before .before .before .before .before .before .before .before .before .before .before .before in
-    rest-written (s .args .words .now) (s .args .at) (s .pre .1) (s .args .amount) (omega arith) (rw add-sub-cancel-left at (c .before .before .before .before .before .before .before .write-text .ensures))
+    rest-written (s .args .words .now) (s .args .at) (s .pre .1) (s .args .amount) (omega arith)
+    (rw add-sub-cancel-left at (c .before .before .before .before .before .before .before .write-text .ensures))
     (rw (toZ-ofZ {w = w64} (s .fits .amount)) at (c .before .before .write-money .ensures))
 
 pub write-rest-spec : {M : Type 1} → statement M

@@ -22,11 +22,13 @@ unfolding texts
 loop-holds c = (search needs, writes-none _)
 
 loop-again : tie.Need-loop-again Inv-loop μ-loop
-loop-again c = (
-  search needs,
-  (writes-more _ (c .before .before .before .before .before .before .before .loop .i) (c .before .before .before .before .before .before .before .loop .inv .1)
-      (fitted-writes (wordsAt (marksIn (c .before .before .before .before .before .before .before .before .before .before .before .args .marks .now)) (c .before .before .before .before .before .before .before .loop .i)) (rw (c .before .before .before .before .before .words-of .ensures) at (c .before .before .write-text .ensures)))),
-)
+loop-again c =
+    let k = c .before .before .before .before .before .before .before in (
+      search needs,
+      (writes-more _ (k .loop .i) (k .loop .inv .1)
+          (fitted-writes (wordsAt (marksIn (k .before .before .before .before .args .marks .now)) (k .loop .i))
+          (rw (c .before .before .before .before .before .words-of .ensures) at (c .before .before .write-text .ensures)))),
+    )
 
 same-length : tie.Need-same-length Inv-loop μ-loop
 same-length c = c .before .loop .inv .1 .kept

@@ -40,7 +40,8 @@ loop-again c =
     let few = array-write-r c in (
       omega arith,
       simp length-set (at .inv .1),
-      holds-more (rw (at .inv .1) few) (by-one isNzd (c .is-nzd .ensures) (by-one (λ (m : Mark). currencyOf (m .code)) (c .before .currency-of .ensures) (c .before .before .mark-at .ensures))) (at .inv .2),
+      holds-more (rw (at .inv .1) few)
+          (by-one isNzd (c .is-nzd .ensures) (by-one (λ (m : Mark). currencyOf (m .code)) (c .before .currency-of .ensures) (c .before .before .mark-at .ensures))) (at .inv .2),
     )
 
 returns : tie.Need-returns Inv-loop μ-loop

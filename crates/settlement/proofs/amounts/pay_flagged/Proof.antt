@@ -44,7 +44,8 @@ mul-times c = omega (arith, element-copy-out-times c)
 times-requires : tie.Need-times-requires Inv-loop μ-loop
 times-requires c κs =
     let g = c .before .before .before .before .before .before .before .pre .0 in
-    amount-asks _ _ (g .0) (g .1) _ (omega (arith, c .before .before .before .loop-test .taken, c .before .before .before .before .before .position-count .ensures)) (c .before .before .position-at .ensures)
+    amount-asks _ _ (g .0) (g .1) _
+    (omega (arith, c .before .before .before .loop-test .taken, c .before .before .before .before .before .position-count .ensures)) (c .before .before .position-at .ensures)
 
 mul-x : tie.Need-mul-x Inv-loop μ-loop
 mul-x c = omega (arith, c .before .before .before .before .before .before .position-count .ensures, c .before .before .before .before .before .before .before .before .pre .0 .0 .few)
@@ -54,14 +55,23 @@ slice-set-from-x c =
     let at = c .before .before .before .before .before .loop in
     let s = c .before .before .before .before .before .before .before .before in
     let q = c .before .before .before .before .before .before .position-count .ensures in
-    omega (arith, q, c .before .before .before .before .loop-test .taken, ap length (at .inv .1) ∙ length-front (amountOf (positionsIn (s .args .positions .now)) (entryOf (s .args .a .now))) (s .args .amounts .now) (at .i) (omega (arith, q, at .inv .0, s .pre .1)), s .pre .1)
+    omega (
+      arith,
+      q,
+      c .before .before .before .before .loop-test .taken,
+      ap length (at .inv .1) ∙ length-front (amountOf (positionsIn (s .args .positions .now)) (entryOf (s .args .a .now))) (s .args .amounts .now) (at .i) (omega (arith, q, at .inv .0, s .pre .1)),
+      s .pre .1,
+    )
 
 -- the amount that was worked
-paid : (c : tie.After-times Inv-loop μ-loop) → toZ w64 (ofZ w64 (c .times .result)) ≡ amountOf (positionsIn (c .before .before .before .before .before .before .before .before .args .positions .now)) (entryOf (c .before .before .before .before .before .before .before .before .args .a .now)) (c .before .before .before .before .before .loop .i)
+paid : (c : tie.After-times Inv-loop μ-loop) → toZ w64 (ofZ w64 (c .times .result))
+    ≡ amountOf (positionsIn (c .before .before .before .before .before .before .before .before .args .positions .now))
+    (entryOf (c .before .before .before .before .before .before .before .before .args .a .now)) (c .before .before .before .before .before .loop .i)
 paid c =
     let g = c .before .before .before .before .before .before .before .before .pre .0 in
     back (c .times .result) (c .times .ok)
-    ∙ amount-gives _ _ (g .0) (g .1) _ (omega (arith, c .before .before .before .before .loop-test .taken, c .before .before .before .before .before .before .position-count .ensures)) (c .before .before .before .position-at .ensures) (c .times .ensures)
+    ∙ amount-gives _ _ (g .0) (g .1) _ (omega (arith, c .before .before .before .before .loop-test .taken, c .before .before .before .before .before .before .position-count .ensures))
+    (c .before .before .before .position-at .ensures) (c .times .ensures)
 
 element-copy-out-add : tie.Need-element-copy-out-add Inv-loop μ-loop
 element-copy-out-add c = element-copy-out-times (c .before .before .before)
@@ -76,7 +86,13 @@ add-requires c κs =
     summed-in _ _ _ (g .0) (g .1) (omega (arith, q, at .inv .0)) (at .inv .2) x
 
 add-i : tie.Need-add-i Inv-loop μ-loop
-add-i c = omega (arith, c .before .before .before .before .before .before .before .before .position-count .ensures, c .before .before .before .before .before .before .before .before .before .before .pre .0 .0 .few, c .before .before .before .before .before .before .loop-test .taken)
+add-i c =
+    omega (
+      arith,
+      c .before .before .before .before .before .before .before .before .position-count .ensures,
+      c .before .before .before .before .before .before .before .before .before .before .pre .0 .0 .few,
+      c .before .before .before .before .before .before .loop-test .taken,
+    )
 
 loop-less : tie.Need-loop-less Inv-loop μ-loop
 loop-less c = omega arith
@@ -98,7 +114,8 @@ same-length : tie.Need-same-length Inv-loop μ-loop
 same-length c =
     let at = c .before .loop in
     let s = c .before .before .before .before in
-    ap length (at .inv .1) ∙ length-front (amountOf (positionsIn (s .args .positions .now)) (entryOf (s .args .a .now))) (s .args .amounts .now) (at .i) (omega (arith, c .before .before .position-count .ensures, at .inv .0, s .pre .1))
+    ap length (at .inv .1) ∙ length-front (amountOf (positionsIn (s .args .positions .now)) (entryOf (s .args .a .now))) (s .args .amounts .now) (at .i)
+    (omega (arith, c .before .before .position-count .ensures, at .inv .0, s .pre .1))
 
 returns : tie.Need-returns Inv-loop μ-loop
 returns c =

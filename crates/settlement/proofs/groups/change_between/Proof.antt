@@ -14,7 +14,8 @@ difference-requires c κs = (by-worth _ _ (c .before .worth .ensures) .1, by-wor
 
 returns : tie.Need-returns
 returns c =
-    by-two (λ (x y : ℕ). pos x -ℤ pos y) (back (c .difference .result) (c .difference .ok) ∙ c .difference .ensures) (by-worth _ _ (c .before .before .worth .ensures) .0) (by-worth _ _ (c .before .worth2 .ensures) .0)
+    by-two (λ (x y : ℕ). pos x -ℤ pos y) (back (c .difference .result) (c .difference .ok) ∙ c .difference .ensures)
+    (by-worth _ _ (c .before .before .worth .ensures) .0) (by-worth _ _ (c .before .worth2 .ensures) .0)
 
 pub change-between-spec : {M : Type 1} → statement M
 change-between-spec =

@@ -39,7 +39,8 @@ loop-less c = omega (arith, c .before .before .before .before .loop-test .taken)
 loop-again : tie.Need-loop-again Inv-loop μ-loop
 loop-again c =
     let s = c .before .before .before .before .before .before .before .before .before .before .before .args in
-    reached-more (changesOf (marksIn (s .marks .now)) (lastOf (c .before .before .before .before .before .before .finals .last .1 .1 .1 .0))) (c .before .before .before .before .loop-test .taken) (c .work .ensures) (c .before .before .before .before .before .loop .inv)
+    reached-more (changesOf (marksIn (s .marks .now)) (lastOf (c .before .before .before .before .before .before .finals .last .1 .1 .1 .0)))
+    (c .before .before .before .before .loop-test .taken) (c .work .ensures) (c .before .before .before .before .before .loop .inv)
 
 returns : tie.Need-returns Inv-loop μ-loop
 returns c =

@@ -33,8 +33,13 @@ array-write-g c = c .before .if1 .left
 loop-again : tie.Need-loop-again Inv-loop μ-loop
 loop-again c =
     let at = c .before .before .before .before .loop .inv in
-    let m = c .before .joined .ensures in
-    (omega arith, omega arith, c .one-more-unless .ensures .0, c .one-more-unless .ensures .1, grouped-more _ (at .2) (c .before .before .if1 .left) (omega (arith, m .0, c .before .before .before .loop-test .taken)) (m .1) (at .4))
+    let m = c .before .joined .ensures in (
+      omega arith,
+      omega arith,
+      c .one-more-unless .ensures .0,
+      c .one-more-unless .ensures .1,
+      grouped-more _ (at .2) (c .before .before .if1 .left) (omega (arith, m .0, c .before .before .before .loop-test .taken)) (m .1) (at .4),
+    )
 
 returns-2 : tie.Need-returns-2 Inv-loop μ-loop
 returns-2 c = c .before .loop .inv .4

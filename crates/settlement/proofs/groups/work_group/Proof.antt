@@ -21,7 +21,8 @@ write-group-requires c κs =
     let s = c .before .before .before .before .before .before .before .before in
     let g = c .before .before .before .before .before .group in (
       in-file (s .pre .0 .1) (g .ensures),
-      lanes-capped (marksIn (s .args .marks .now)) (s .args .finals .now) (s .pre .0 .1) (s .pre .1) (g .ensures) (ap (λ (m : Mark). m .code) (c .before .before .before .mark-at .ensures)) (c .before .before .before .before .lane-prices .ensures) (c .before .before .worths .ensures),
+      lanes-capped (marksIn (s .args .marks .now)) (s .args .finals .now) (s .pre .0 .1) (s .pre .1) (g .ensures)
+          (ap (λ (m : Mark). m .code) (c .before .before .before .mark-at .ensures)) (c .before .before .before .before .lane-prices .ensures) (c .before .before .worths .ensures),
     )
 
 returns : tie.Need-returns
@@ -30,7 +31,8 @@ returns c =
     let g = c .before .before .before .before .before .before .group in
     let v = c .before .before .before .worths in
     works (changesOf (marksIn (s .args .marks .now)) (lastOf (s .args .finals .now))) (g .result) (v .result) (s .pre .0 .1) (g .ensures)
-    (lanes-right (marksIn (s .args .marks .now)) (s .args .finals .now) (s .pre .0 .1) (s .pre .1) (g .ensures) (ap (λ (m : Mark). m .code) (c .before .before .before .before .mark-at .ensures)) (c .before .before .before .before .before .lane-prices .ensures) (v .ensures))
+    (lanes-right (marksIn (s .args .marks .now)) (s .args .finals .now) (s .pre .0 .1) (s .pre .1) (g .ensures)
+    (ap (λ (m : Mark). m .code) (c .before .before .before .before .mark-at .ensures)) (c .before .before .before .before .before .lane-prices .ensures) (v .ensures))
     (c .write-group .ensures .0) (c .write-group .ensures .1)
 
 pub work-group-spec : {M : Type 1} → statement M

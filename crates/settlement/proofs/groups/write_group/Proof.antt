@@ -33,14 +33,19 @@ loop-again : tie.Need-loop-again Inv-loop μ-loop
 loop-again c =
     let a = c .before .before .before .args in
     let l = c .before .before .loop in
-    let at = l .inv in
-    (omega arith, set-more (a .t1) (lanesChange (a .t2)) (a .a .now) (l .k) (at .1) (back (c .difference .result) (c .difference .ok) ∙ c .difference .ensures), set-more (a .t1) (λ j. true) (a .done .now) (l .k) (at .2) refl)
+    let at = l .inv in (
+      omega arith,
+      set-more (a .t1) (lanesChange (a .t2)) (a .a .now) (l .k) (at .1) (back (c .difference .result) (c .difference .ok) ∙ c .difference .ensures),
+      set-more (a .t1) (λ j. true) (a .done .now) (l .k) (at .2) refl,
+    )
 
 returns : tie.Need-returns Inv-loop μ-loop
 returns c =
     let a = c .before .before .args in
-    let at = c .before .loop .inv in
-    (at-end (λ k. setAll k (a .t1) (lanesChange (a .t2)) (a .a .now)) (at .1) (at .0) (c .loop-test .left), at-end (λ k. setAll k (a .t1) (λ j. true) (a .done .now)) (at .2) (at .0) (c .loop-test .left))
+    let at = c .before .loop .inv in (
+      at-end (λ k. setAll k (a .t1) (lanesChange (a .t2)) (a .a .now)) (at .1) (at .0) (c .loop-test .left),
+      at-end (λ k. setAll k (a .t1) (λ j. true) (a .done .now)) (at .2) (at .0) (c .loop-test .left),
+    )
 
 pub write-group-spec : {M : Type 1} → statement M
 write-group-spec =

@@ -51,7 +51,8 @@ loop-again c =
 returns : tie.Need-returns Inv-loop μ-loop
 returns c =
     let s = c .before .before .before .before .before .before .before in
-    standing-final (marksIn (s .args .marks .now)) (correctionsIn (s .args .corrections .now)) {numbers = c .before .loop .number} (rw (← c .before .before .correction-count .ensures, le-antisymm (c .loop-test .left) (c .before .loop .inv .0)) (c .before .loop .inv .3))
+    standing-final (marksIn (s .args .marks .now)) (correctionsIn (s .args .corrections .now)) {numbers = c .before .loop .number}
+    (rw (← c .before .before .correction-count .ensures, le-antisymm (c .loop-test .left) (c .before .loop .inv .0)) (c .before .loop .inv .3))
 
 pub finals-spec : {M : Type 1} → statement M
 finals-spec =

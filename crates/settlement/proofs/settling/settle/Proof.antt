@@ -10,7 +10,8 @@ use Rattle.settlement.proofs.settling.settle.Tie as tie
 settle-records-requires : tie.Need-settle-records-requires
 settle-records-requires c κs =
     let f = c .before .before .before .before .before .before .before .before .before .args .file .now in
-    let cut = lists-are f (c .before .before .before .before .before .counts .given .0 .0) (c .before .before .before .marks-in .ensures) (c .before .before .corrections-in .ensures) (c .before .positions-in .ensures) in
+    let cut = lists-are f (c .before .before .before .before .before .counts .given .0 .0)
+    (c .before .before .before .marks-in .ensures) (c .before .before .corrections-in .ensures) (c .before .positions-in .ensures) in
     passing-of cut (sound f (c .before .before .before .before .before .before .before .judge .ensures) (c .before .before .before .before .before .counts .given .1))
 
 returns : tie.Need-returns
@@ -19,8 +20,10 @@ returns c = answered _ _ (c .before .before .before .judge .ensures) (c .before 
 returns-2 : tie.Need-returns-2
 returns-2 c =
     let f = c .before .before .before .before .before .before .before .before .before .before .before .args .file .now in
-    let cut = lists-are f (c .before .before .before .before .before .before .before .counts .given .0 .0) (c .before .before .before .before .before .marks-in .ensures) (c .before .before .before .before .corrections-in .ensures) (c .before .before .before .positions-in .ensures) in
-    answered f _ (c .before .before .before .before .before .before .before .before .before .judge .ensures) (c .before .before .before .before .before .before .before .counts .given .1) (settles-of (length (c .before .before .before .before .before .before .before .before .before .before .before .args .amounts .now)) cut (c .before .settle-records .ensures))
+    let cut = lists-are f (c .before .before .before .before .before .before .before .counts .given .0 .0)
+    (c .before .before .before .before .before .marks-in .ensures) (c .before .before .before .before .corrections-in .ensures) (c .before .before .before .positions-in .ensures) in
+    answered f _ (c .before .before .before .before .before .before .before .before .before .judge .ensures) (c .before .before .before .before .before .before .before .counts .given .1)
+    (settles-of (length (c .before .before .before .before .before .before .before .before .before .before .before .args .amounts .now)) cut (c .before .settle-records .ensures))
 
 pub settle-spec : {M : Type 1} → statement M
 settle-spec =

@@ -20,7 +20,9 @@ same-length c = search needs
 returns-2 : tie.Need-returns-2
 returns-2 c =
     let s = c .before .before .before .before .before .before .before .before .args in
-    settles-as (plan-accepted (listsOf (s .marks .now) (s .corrections .now) (s .positions .now)) _ (omega (arith, c .before .before .before .before .position-count .ensures, c .before .before .before .if1 .left))) (c .before .settle-accepted .ensures)
+    settles-as (plan-accepted (listsOf (s .marks .now) (s .corrections .now) (s .positions .now)) _
+    (omega (arith, c .before .before .before .before .position-count .ensures, c .before .before .before .if1 .left)))
+    (c .before .settle-accepted .ensures)
 
 pub settle-records-spec : {M : Type 1} → statement M
 settle-records-spec =

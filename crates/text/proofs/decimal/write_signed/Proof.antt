@@ -16,7 +16,10 @@ unfolding signedDecimalBy
 returns c =
     let s = c .before .before .before .before .before .before .before in
     let e = toZ-ofZ {w = w64} (s .fits .n) in
-    rw (sign-is (s .args .n) (rw e at (c .before .before .before .before .before .sign .ensures)) .1, rw e at (c .before .before .before .before .magnitude .ensures)) at (c .before .before .write-with-sign .ensures)
+    rw (
+      sign-is (s .args .n) (rw e at (c .before .before .before .before .before .sign .ensures)) .1,
+      rw e at (c .before .before .before .before .magnitude .ensures),
+    ) at (c .before .before .write-with-sign .ensures)
 
 pub write-signed-spec : {M : Type 1} → statement M
 write-signed-spec =

@@ -1,7 +1,7 @@
 //! The forms that a text may have, and the files that break the layout on purpose.
 
 use super::{bytes_of, case, made, shown};
-use citronreef::records::Day;
+use citronreef::records::{Day, MAX_MARKS};
 
 const CASE: &str =
     "mark IR 3 18 95.00 95.02\ncorrection 7 @0 95.01\ncorrection 7 @0 95.01\nposition 11 @0 10\nposition 12 @0 -4\n";
@@ -76,6 +76,8 @@ fn the_day_is_not_judged() {
     for text in ["mark ZZ 13 100 200.0001 0.0001", "correction 1 @9 0.0\ncorrection 1 @8 0.0", "position 1 @7 0"] {
         assert!(made(text.as_bytes()).is_ok());
     }
-    let marks = "mark IR 3 18 95.00 95.02\n".repeat(257);
-    assert!(shown(&bytes_of(&marks)).contains("# layout: 257 marks are above the limit of 256\n"));
+    let count = MAX_MARKS + 1;
+    let marks = "mark IR 3 18 95.00 95.02\n".repeat(count);
+    let told = format!("# layout: {count} marks are above the limit of {MAX_MARKS}\n");
+    assert!(shown(&bytes_of(&marks)).contains(&told));
 }

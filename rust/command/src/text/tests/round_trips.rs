@@ -106,14 +106,16 @@ fn headers_that_break_the_layout() {
         with_header([1, 24, 2, 36, 2, most], rest),
         with_header([1, 24, 2, 36, 1, 60], rest),
         with_header([1, 24, 2, 36, 3, 60], rest),
-        with_header([1, 0, 513, 36, 2, 60], rest),
+        with_header([1, 0, MAX_CORRECTIONS as u32 + 1, 36, 2, 60], rest),
         with_header([0, 24, 0, 24, 0, 24], rest),
         with_header([1, 24, 2, 36, 2, 72], &[rest, &[0; 12]].concat()),
     ];
     assert!(refused.iter().all(|file| comes_back(file)));
     assert!(!comes_back(&with_header([0, 24, 0, 24, 0, 24], &[])));
-    for at in (0..HEADER_SIZE).step_by(4) {
-        for number in (0..600).chain([4_095, 4_096, 4_097, 65_536]).chain((0..32).flat_map(|k| [1 << k, u32::MAX >> k])) {
+    let limit = MAX_POSITIONS as u32;
+    let numbers = (0..600).chain([limit - 1, limit, limit + 1, 65_536]).chain((0..32).flat_map(|k| [1 << k, u32::MAX >> k]));
+    for number in numbers {
+        for at in (0..HEADER_SIZE).step_by(4) {
             let mut file = whole.clone();
             file[at..at + 4].copy_from_slice(&number.to_le_bytes());
             comes_back(&file);

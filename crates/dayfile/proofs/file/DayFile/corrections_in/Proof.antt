@@ -7,7 +7,9 @@ use Rattle.dayfile.proofs.file.DayFile.corrections_in.Statement.{statem
 use Rattle.dayfile.proofs.file.DayFile.corrections_in.Tie as tie
 
 returns : tie.Need-returns
-returns c = section-is _ (correctionSize * c .before .before .before .before .args .self .corrections) (c .section .ensures) (c .before .before .corrections-start .ensures) (c .before .positions-start .ensures)
+returns c =
+    section-is _ (correctionSize * c .before .before .before .before .args .self .corrections) (c .section .ensures)
+    (c .before .before .corrections-start .ensures) (c .before .positions-start .ensures)
 
 pub corrections-in-spec : {M : Type 1} → statement M
 corrections-in-spec =
