@@ -2,6 +2,7 @@
 -- Corrections have one key exactly where they bear one number, so that the array has the last earlier one with each correction's number.
 use lib.ListN.{replicate}
 use mathlib.Core.Path.{refl, sym, _∙_}
+use Rattle.dayfile.specs.Limits.{fileLimits}
 use Rattle.dayfile.specs.Records.{marksIn, correctionsIn}
 use Rattle.checks.proofs.Keyed.{last-numbers}
 use Rattle.checks.proofs.Deciding.{corrections-decided, corrections-clear, neither}
@@ -12,12 +13,12 @@ use Rattle.checks.proofs.corrections.decide_corrections.Tie as tie
 first-clash-requires : tie.Need-first-clash-requires
 first-clash-requires c κs =
     let s = c .before .before .before .before .before .before .before in
-    last-numbers (s .args .corrections .now) (s .pre .1) (replicate 512 0) refl (c .before .before .earlier .ensures)
+    last-numbers (s .args .corrections .now) (s .pre .1) (replicate (fileLimits .corrections) 0) refl (c .before .before .earlier .ensures)
 
 resent-count-requires : tie.Need-resent-count-requires
 resent-count-requires c κs =
     let s = c .before .before .before .before .before .before .before .before .before in
-    last-numbers (s .args .corrections .now) (s .pre .1) (replicate 512 0) refl (c .before .before .before .before .earlier .ensures)
+    last-numbers (s .args .corrections .now) (s .pre .1) (replicate (fileLimits .corrections) 0) refl (c .before .before .before .before .earlier .ensures)
 
 returns : tie.Need-returns
 returns c =

@@ -1,5 +1,7 @@
--- 512 roots and two places below each of at most 512 records fit in 1,536 places; these and those for the last records start empty.
+-- As many roots as there may be records, and two places below each record, fit in three times as many places; these and those for the last records start empty.
+use Prim.Native.Nat.{_*_}
 use native.Mathlib.Omega.{arith}
+use Rattle.pairs.specs.Walks.{middle}
 use Rattle.pairs.proofs.Rooms.{room-in}
 use Rattle.pairs.proofs.Trees.{zeros}
 use borrow.Author.Needs.{needs}
@@ -9,9 +11,9 @@ use Rattle.pairs.proofs.walks.earlier_middle.Tie as tie
 earlier-in-requires : tie.Need-earlier-in-requires
 earlier-in-requires c κs =
     let p = c .before .before .before .before .before .pre in (
-      room-in 512 1536 (p .0) (omega arith) (omega arith) (omega (arith, c .before .before .before .before .before .pre .2)),
-      zeros 1536,
-      zeros 512,
+      room-in middle (3 * middle) (p .0) (omega arith) (omega arith) (omega (arith, c .before .before .before .before .before .pre .2)),
+      zeros (3 * middle),
+      zeros middle,
       omega (arith, c .before .before .before .before .before .pre .2),
       p .1,
     )

@@ -1,5 +1,7 @@
--- 512 roots and two places below each of at most 512 records fit in 1,536 places, which start empty.
+-- As many roots as there may be records, and two places below each record, fit in three times as many places, which start empty.
+use Prim.Native.Nat.{_*_}
 use native.Mathlib.Omega.{arith}
+use Rattle.pairs.specs.Walks.{middle}
 use Rattle.pairs.proofs.Rooms.{room-in}
 use Rattle.pairs.proofs.Trees.{zeros}
 use borrow.Author.Needs.{needs}
@@ -7,7 +9,7 @@ use Rattle.pairs.proofs.walks.first_middle.Statement.{statement}
 use Rattle.pairs.proofs.walks.first_middle.Tie as tie
 
 first-in-requires : tie.Need-first-in-requires
-first-in-requires c κs = (room-in 512 1536 (c .before .before .pre .0) (omega arith) (omega arith) (omega (arith, c .before .before .pre .1)), zeros 1536)
+first-in-requires c κs = (room-in middle (3 * middle) (c .before .before .pre .0) (omega arith) (omega arith) (omega (arith, c .before .before .pre .1)), zeros (3 * middle))
 
 pub first-middle-spec : {M : Type 1} → statement M
 first-middle-spec = tie.close
