@@ -23,7 +23,7 @@ ELSEWHERE = ("target/", "lib/", "bin/", "share/", "/", "-")  # paths of what is 
 COMMANDS = {"explain", "make", "sheet", "show"}  # of citronreef
 # Words that cite nothing of the repository: pieces of notation, names of other programs and languages. Nor do figures.
 WORDS = set(
-    """ensures|requires|must-fail|lib.rt|p before q|i ≡ 0|r ≡ ..|said r ≡ ..|now r ≡ ..|now (a .exit) ≡ ..|refused 7 at 0
+    """ensures|requires|must-fail|lib.rt|a before b|i ≡ 0|r ≡ ..|said r ≡ ..|now r ≡ ..|now (a .exit) ≡ ..|refused 7 at 0
     |refused,NUMBER,INDEX,WORDS|950100u|@i|ir|make --anyway|Decimal|std::vector|citronreef_|memset|io|os|libc|rt|N passed, 0 failed
     |position 1001 XT/3/27 -40""".replace("\n    ", "").split("|")
 )

@@ -17,7 +17,7 @@ use Rattle.numbers.proofs.Checks.{Agree, agree-only, agree-before}
 use Rattle.products.specs.Products.{priceLimit, find, monthsOf, Unlisted}
 use Rattle.products.specs.declared.table.Code.{Code}
 use Rattle.products.specs.declared.table.Product.{Product}
-use Rattle.products.specs.declared.table.Found.the-variants.{At}
+use Rattle.products.specs.declared.table.NamedProduct.the-variants.{At}
 use Rattle.products.proofs.Finding.{tells-unlisted, tells-product}
 use Rattle.products.proofs.Months.{month-exactly}
 use Rattle.dayfile.specs.Limits.{Limits, yearLimit, lotsLimit}

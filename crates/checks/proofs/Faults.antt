@@ -8,8 +8,8 @@ use lib.Dec.{ltb, eqb}
 use lib.ListN.{length, getD, List·getD-eq-default}
 use borrow.Author.Tests.{le-leb, lt-leb}
 use Rattle.products.specs.Products.{find, findIn, products, sameCode}
-use Rattle.products.specs.declared.table.Found.{Found}
-use Rattle.products.specs.declared.table.Found.the-variants.{At, Missing}
+use Rattle.products.specs.declared.table.NamedProduct.{NamedProduct}
+use Rattle.products.specs.declared.table.NamedProduct.the-variants.{At, Missing}
 use Rattle.dayfile.specs.Limits.{yearLimit}
 use Rattle.dayfile.specs.Records.{markOf, markAt}
 use Rattle.dayfile.specs.declared.records.Mark.{Mark}
@@ -22,7 +22,7 @@ use Rattle.checks.specs.declared.corrections.CorrectionFaults.{Correctio
 
 -- ---- a mark, by what the lookup of its code found
 
-abbrev pub faultsIn : Mark → Found → MarkFaults
+abbrev pub faultsIn : Mark → NamedProduct → MarkFaults
 faultsIn m (At q) = faultsBy q m
 faultsIn m Missing = record { code = true; date = true; high = highMark m; off = false; tick = 1 }
 
@@ -30,7 +30,7 @@ pub faults-found : (m : Mark) → faultsIn m (find (m .code)) ≡ markFaults m
 unfolding listed quoted tickOf
 faults-found m = go (find (m .code))
   where
-    go : (o : Found) → faultsIn m o
+    go : (o : NamedProduct) → faultsIn m o
         ≡ record {
           code = not (listedIn o);
           date = not (quotedIn o (m .month)) || ltb yearLimit (m .year);

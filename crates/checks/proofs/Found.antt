@@ -21,19 +21,19 @@ use Rattle.dayfile.specs.Limits.{Limits, fileLimits}
 use Rattle.dayfile.specs.Records.{listsOf}
 use Rattle.dayfile.specs.Layout.{headerSize, countsOf, markBytes, correctionBytes, positionBytes, listsOfFile}
 use Rattle.dayfile.specs.Opening.{Short, headerCheck, headerChecks, withinLimits, asLaidOut, lookedAt, headerDecision, countedOf}
-use Rattle.dayfile.specs.Steps.{Small}
+use Rattle.dayfile.specs.WithinLimits.{ListsWithinLimits}
 use Rattle.dayfile.specs.declared.file.DayFile.{DayFile}
 use Rattle.dayfile.specs.declared.file.Opened.{Opened}
 use Rattle.dayfile.specs.declared.file.Opened.the-variants as opened
-use Rattle.dayfile.proofs.Opening.{limited, counted-file}
-use Rattle.dayfile.proofs.Parts.{small}
+use Rattle.dayfile.proofs.Opening.{counts-within, counted-file}
+use Rattle.dayfile.proofs.Parts.{lists-within}
 use Rattle.dayfile.proofs.Refusals.{header-agrees}
 use Rattle.checks.specs.Judging.{recordChecks, fileChecks, judgedOf}
 use Rattle.checks.specs.Corrections.{resentOf}
-use Rattle.checks.specs.declared.judging.Judged.the-variants.{Sound, Refused}
+use Rattle.checks.specs.declared.judging.Judged.the-variants.{Passed, Refused}
 use Rattle.checks.specs.Finding.{looked, checksOf, foundOf}
 use Rattle.checks.proofs.Agreement.{file-agrees}
-use Rattle.checks.proofs.Refusals.{judge-refuses, judge-sound}
+use Rattle.checks.proofs.Refusals.{judge-refuses, judge-passes}
 
 -- ---- in words
 
@@ -93,12 +93,12 @@ module _ (l : Limits) (f : List ℕ) where
       (looked-decides ∙ refuses-exactly (fileChecks l f) (file-agrees l f) .1 (judge-refuses l f .0 p))
 
   -- and in a file that passes no check finds anything
-  pub sound-clear : judgedOf l f ≡ Sound (countsOf f) (resentOf (listsOfFile f .corrections)) → (k : ℕ) → foundOf l f k ≡ Nothing
+  pub passed-clear : judgedOf l f ≡ Passed (countsOf f) (resentOf (listsOfFile f .corrections)) → (k : ℕ) → foundOf l f k ≡ Nothing
   unfolding foundOf
-  sound-clear p k =
+  passed-clear p k =
       nothing-found (checksOf l f) (looked-agrees l f (ltb (length f) headerSize) (withinLimits l (countsOf f)))
       (looked-apart l f (ltb (length f) headerSize) (withinLimits l (countsOf f)))
-      (looked-decides ∙ passes-exactly (fileChecks l f) (file-agrees l f) .1 (judge-sound l f .0 p)) k
+      (looked-decides ∙ passes-exactly (fileChecks l f) (file-agrees l f) .1 (judge-passes l f .0 p)) k
 
 -- ---- a file
 
@@ -120,8 +120,8 @@ module _ (f : List ℕ) where
 
   -- the header, then the records
   module _ {d : DayFile} (o : countedOf fileLimits f ≡ opened.File d) {m c p : List ℕ} (ms : m ≡ markBytes f d) (cs : c ≡ correctionBytes f d) (ps : p ≡ positionBytes f d) where
-    pub counted-small : Small (listsOf m c p)
-    counted-small = let (a, b, e) = counted-file fileLimits f o in rw (ms, cs, ps) (small f d (limited d (rw e at b)))
+    pub counted-within : ListsWithinLimits (listsOf m c p)
+    counted-within = let (a, b, e) = counted-file fileLimits f o in rw (ms, cs, ps) (lists-within f d (counts-within d (rw e at b)))
 
     pub found-in-file : (k : ℕ) {h r s : Decision} {t : Found} → h ≡ headerDecision fileLimits f (One k) → r ≡ decisionFor (recordChecks (listsOf m c p)) (One k) → s ≡ orLater h r
         → t ≡ foundIn s → t ≡ foundOf fileLimits f k

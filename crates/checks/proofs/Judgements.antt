@@ -11,11 +11,11 @@ use Rattle.dayfile.specs.Limits.{fileLimits}
 use Rattle.dayfile.specs.Records.{Lists, correctionsIn, listsOf}
 use Rattle.dayfile.specs.Layout.{markBytes, correctionBytes, positionBytes, listsOfFile}
 use Rattle.dayfile.specs.Opening.{headerChecks, openedOf}
-use Rattle.dayfile.specs.Steps.{Small}
+use Rattle.dayfile.specs.WithinLimits.{ListsWithinLimits}
 use Rattle.dayfile.specs.declared.file.DayFile.{DayFile}
 use Rattle.dayfile.specs.declared.file.Opened.the-variants as opened
 use Rattle.dayfile.proofs.Opening.{laid-out}
-use Rattle.dayfile.proofs.Parts.{small}
+use Rattle.dayfile.proofs.Parts.{lists-within}
 use Rattle.dayfile.proofs.Refusals.{refused-decides, opened-decides}
 use Rattle.checks.specs.Marks.{markChecks}
 use Rattle.checks.specs.Corrections.{correctionChecks, resentOf}
@@ -45,8 +45,8 @@ module _ (f : List ℕ) where
   judged-refused o = rw (decision-before (headerChecks fileLimits f) (recordChecks (listsOfFile f)), refused-decides fileLimits f o)
 
   module _ {d : DayFile} (o : openedOf fileLimits f ≡ opened.File d) {m c p : List ℕ} (ms : m ≡ markBytes f d) (cs : c ≡ correctionBytes f d) (ps : p ≡ positionBytes f d) where
-    pub opened-small : Small (listsOf m c p)
-    opened-small = rw (ms, cs, ps) (small f d (laid-out f o .limited))
+    pub opened-within : ListsWithinLimits (listsOf m c p)
+    opened-within = rw (ms, cs, ps) (lists-within f d (laid-out f o .counts-within))
 
     pub judged-opened : {r : Judged} → r ≡ judgedBy d (resentOf (correctionsIn c)) (decisionOf (recordChecks (listsOf m c p))) → r ≡ judgedOf fileLimits f
     unfolding judgedOf

@@ -29,7 +29,7 @@ use Rattle.checks.specs.Marks.{MarkCheck, markCheck, markChecks, tooMany
 use Rattle.checks.specs.Corrections.{CorrectionCheck, correctionCheck, correctionChecks, correctionListChecks, correctionsJudged, resentOf}
 use Rattle.checks.specs.Positions.{PositionCheck, positionCheck, positionChecks, tooManyPositions, positionListChecks}
 use Rattle.checks.specs.Judging.{recordChecks, fileChecks, judgedBy, judgedOf}
-use Rattle.checks.specs.declared.judging.Judged.the-variants.{Sound, Refused}
+use Rattle.checks.specs.declared.judging.Judged.the-variants.{Passed, Refused}
 use Rattle.checks.proofs.Agreement.{marks-agree, corrections-agree, positions-agree, mark-lists-agree, correction-lists-agree, position-lists-agree, file-agrees, many}
 use Rattle.checks.proofs.Deciding.{too-many, not-many, too-many-corrections, not-many-corrections}
 use Rattle.checks.proofs.Passed.{passed-parts, mark-passes, correction-passes, position-passes}
@@ -40,9 +40,9 @@ refused-by : (d : DayFile) (r : ℕ) (x : Decision) {k i : ℕ} → judgedBy d r
 refused-by d r (Met n j) p = cc
 refused-by d r Unmet p = absurd (let z : _≡_ {A = ℕ} 0 1 = cc in omega arith)
 
-sound-by : (d : DayFile) (r : ℕ) (x : Decision) {c : DayFile} {n : ℕ} → judgedBy d r x ≡ Sound c n → x ≡ Unmet
-sound-by d r (Met n j) p = absurd (let z : _≡_ {A = ℕ} 0 1 = cc in omega arith)
-sound-by d r Unmet p = refl
+passed-by : (d : DayFile) (r : ℕ) (x : Decision) {c : DayFile} {n : ℕ} → judgedBy d r x ≡ Passed c n → x ≡ Unmet
+passed-by d r (Met n j) p = absurd (let z : _≡_ {A = ℕ} 0 1 = cc in omega arith)
+passed-by d r Unmet p = refl
 
 module _ (l : Limits) (f : List ℕ) where
   pub judge-refuses : {k i : ℕ} → (judgedOf l f ≡ Refused k i) ↔ Refuses (fileChecks l f) k i
@@ -52,31 +52,31 @@ module _ (l : Limits) (f : List ℕ) where
     λ h. ap (judgedBy (countsOf f) (resentOf (listsOfFile f .corrections))) (refuses-exactly (fileChecks l f) (file-agrees l f) .1 h),
   )
 
-  -- sound: with the header's counts and the resent count
-  pub judge-sound : (judgedOf l f ≡ Sound (countsOf f) (resentOf (listsOfFile f .corrections))) ↔ Passes (fileChecks l f)
+  -- passed: with the header's counts and the resent count
+  pub judge-passes : (judgedOf l f ≡ Passed (countsOf f) (resentOf (listsOfFile f .corrections))) ↔ Passes (fileChecks l f)
   unfolding judgedOf
-  judge-sound = (
-    λ p. passes-exactly (fileChecks l f) (file-agrees l f) .0 (sound-by _ _ (decisionOf (fileChecks l f)) p),
+  judge-passes = (
+    λ p. passes-exactly (fileChecks l f) (file-agrees l f) .0 (passed-by _ _ (decisionOf (fileChecks l f)) p),
     λ h. ap (judgedBy (countsOf f) (resentOf (listsOfFile f .corrections))) (passes-exactly (fileChecks l f) (file-agrees l f) .1 h),
   )
 
-  -- Nothing is wrong with any record of a sound file, as many as its header counts.
-  module _ {c : DayFile} {n : ℕ} (e : judgedOf l f ≡ Sound c n) where
+  -- Nothing is wrong with any record of a file that passes, as many as its header counts.
+  module _ {c : DayFile} {n : ℕ} (e : judgedOf l f ≡ Passed c n) where
     passed : (openedOf l f ≡ File (countsOf f)) × (decisionOf (recordChecks (listsOfFile f)) ≡ Unmet)
     unfolding judgedOf
-    passed = passed-parts l f (sound-by _ _ (decisionOf (fileChecks l f)) e)
+    passed = passed-parts l f (passed-by _ _ (decisionOf (fileChecks l f)) e)
 
     counts : (length (listsOfFile f .marks) ≡ u32At f 0) × (length (listsOfFile f .corrections) ≡ u32At f 8) × (length (listsOfFile f .positions) ≡ u32At f 16)
     counts = header-counts f (opens l f (passed .0) .0 .ends-at)
 
-    pub marks-right : (i : ℕ) → i < u32At f 0 → (k : MarkCheck) → ¬ (markCheck (listsOfFile f .marks) k .Wrong i)
+    pub marks-right : (i : ℕ) → i < u32At f 0 → (k : MarkCheck) → ¬ (markCheck (listsOfFile f .marks) k .Condition i)
     marks-right i h k = marks-agree (listsOfFile f .marks) k i .no (mark-passes (listsOfFile f) (passed .1) i k (rw (counts .0) h))
 
-    pub corrections-right : (i : ℕ) → i < u32At f 8 → (k : CorrectionCheck) → ¬ (correctionCheck (listsOfFile f .marks) (listsOfFile f .corrections) k .Wrong i)
+    pub corrections-right : (i : ℕ) → i < u32At f 8 → (k : CorrectionCheck) → ¬ (correctionCheck (listsOfFile f .marks) (listsOfFile f .corrections) k .Condition i)
     corrections-right i h k =
         corrections-agree (listsOfFile f .marks) (listsOfFile f .corrections) k i .no (correction-passes (listsOfFile f) (passed .1) i k (rw (counts .1) h))
 
-    pub positions-right : (i : ℕ) → i < u32At f 16 → (k : PositionCheck) → ¬ (positionCheck (listsOfFile f .marks) (listsOfFile f .positions) k .Wrong i)
+    pub positions-right : (i : ℕ) → i < u32At f 16 → (k : PositionCheck) → ¬ (positionCheck (listsOfFile f .marks) (listsOfFile f .positions) k .Condition i)
     positions-right i h k =
         positions-agree (listsOfFile f .marks) (listsOfFile f .positions) k i .no (position-passes (listsOfFile f) (passed .1) i k (rw (counts .2) h))
 

@@ -59,21 +59,21 @@ module _ (ms : List Mark) (cs : List Correction) where
   correctionCheck CorrectionMark =
       record {
         number = 9;
-        Wrong = λ i. length ms ≤ correctionAt cs i .mark;
+        Condition = λ i. length ms ≤ correctionAt cs i .mark;
         test = λ i. noMark ms (correctionAt cs i .mark);
       }
   -- 10: a correction's price breaks 6 or 7 for its mark
   correctionCheck CorrectionPrice =
       record {
         number = 10;
-        Wrong = λ i. let c = correctionAt cs i in (priceLimit < c .price) ⊎ OffTick (markAt ms (c .mark)) (c .price);
+        Condition = λ i. let c = correctionAt cs i in (priceLimit < c .price) ⊎ OffTick (markAt ms (c .mark)) (c .price);
         test = λ i. let c = correctionAt cs i in badPrice (markAt ms (c .mark)) (c .price);
       }
   -- 11: a correction agrees with an earlier one in number but differs in mark or price
   correctionCheck CorrectionClash =
       record {
         number = 11;
-        Wrong = λ i. (j : ℕ) × (j < i) × Clash (correctionAt cs i) (correctionAt cs j);
+        Condition = λ i. (j : ℕ) × (j < i) × Clash (correctionAt cs i) (correctionAt cs j);
         test = repeating (clashPair cs);
       }
 
@@ -92,7 +92,7 @@ module _ (l : Limits) (ms : List Mark) (cs : List Correction) where
   tooManyCorrections =
       record {
         number = 2;
-        Wrong = λ i. (l .marks < length ms) ⊎ (l .corrections < length cs);
+        Condition = λ i. (l .marks < length ms) ⊎ (l .corrections < length cs);
         test = λ i. ltb (l .marks) (length ms) || ltb (l .corrections) (length cs);
       }
 

@@ -5,7 +5,7 @@ use mathlib.Core.Bool.{Bool, false, cond, not, _||_}
 use mathlib.Core.List.{List}
 use lib.Dec.{leb, ltb, eqb}
 use lib.ListN.{length}
-use Rattle.numbers.specs.Folds.{orElse, first, last, some, Holds}
+use Rattle.numbers.specs.Folds.{orElse, first, last, some, Filled}
 use Rattle.numbers.specs.Order.{orFound, sought}
 use Rattle.numbers.specs.declared.Found.{Found}
 use Rattle.numbers.specs.declared.Found.the-variants.{At, Nothing}
@@ -21,7 +21,7 @@ use Rattle.dayfile.specs.declared.records.Correction.{Correction}
 use Rattle.dayfile.specs.declared.records.Position.{Position}
 use Rattle.dayfile.specs.declared.records.RawPosition.{RawPosition}
 use Rattle.checks.specs.Table.{tickOf}
-use Rattle.checks.specs.Marks.{noMark, badCode, badDate, highMark, offMark, markCheck, MarkCode, MarkDate, MarkLimit, MarkTick}
+use Rattle.checks.specs.Marks.{noMark, badCode, badDate, highMark, offTickMark, markCheck, MarkCode, MarkDate, MarkLimit, MarkTick}
 use Rattle.checks.specs.Corrections.{badPrice, numberPair, clashPair, correctionCheck, CorrectionMark, CorrectionPrice}
 use Rattle.checks.specs.Positions.{badLots, positionCheck, PositionMark, PositionLots}
 use Rattle.checks.specs.declared.marks.MarkFaults.{MarkFaults}
@@ -34,7 +34,7 @@ use Rattle.checks.specs.declared.positions.PositionFindings.{PositionFin
 -- ---- what is wrong with one record
 
 abbrev pub markFaults : Mark → MarkFaults
-markFaults m = record { code = badCode m; date = badDate m; high = highMark m; off = offMark m; tick = tickOf (m .code) }
+markFaults m = record { code = badCode m; date = badDate m; high = highMark m; off = offTickMark m; tick = tickOf (m .code) }
 
 abbrev pub correctionFaults : List Mark → Correction → CorrectionFaults
 correctionFaults ms c = record { missing = noMark ms (c .mark); price = badPrice (markAt ms (c .mark)) (c .price) }
@@ -44,13 +44,13 @@ positionFaults ms p = record { missing = noMark ms (p .mark); lots = badLots (p 
 
 -- a mark of a product
 abbrev pub faultsBy : Product → Mark → MarkFaults
-faultsBy q m =
+faultsBy product m =
     record {
       code = false;
-      date = not (hasMonth q (m .month)) || ltb yearLimit (m .year);
+      date = not (hasMonth product (m .month)) || ltb yearLimit (m .year);
       high = highMark m;
-      off = not (eqb (m .previous % q .tick) 0) || not (eqb (m .today % q .tick) 0);
-      tick = q .tick;
+      off = not (eqb (m .previous % product .tick) 0) || not (eqb (m .today % product .tick) 0);
+      tick = product .tick;
     }
 
 -- a position as its bytes have it, given how many marks there are
@@ -61,13 +61,13 @@ rawFaults n w =
 
 -- whether anything is
 abbrev pub anyMarkFault : MarkFaults → Bool
-anyMarkFault l = l .code || l .date || l .high || l .off
+anyMarkFault faults = faults .code || faults .date || faults .high || faults .off
 
 abbrev pub anyCorrectionFault : CorrectionFaults → Bool
-anyCorrectionFault l = l .missing || l .price
+anyCorrectionFault faults = faults .missing || faults .price
 
 abbrev pub anyPositionFault : PositionFaults → Bool
-anyPositionFault l = l .missing || l .lots
+anyPositionFault faults = faults .missing || faults .lots
 
 -- and with any record of a list
 abbrev pub someMarkFault : List Mark → Bool
@@ -102,19 +102,19 @@ positionFindings ms ps n =
 abbrev pub also : Found → Bool → ℕ → Found
 also o b i = orElse o (cond b (At i) Nothing)
 
-pub record WithMark (f : MarkFindings) (l : MarkFaults) (i : ℕ) (r : MarkFindings) : Type 0 where
-  pub code : r .code ≡ also (f .code) (l .code) i
-  pub date : r .date ≡ also (f .date) (l .date) i
-  pub high : r .high ≡ also (f .high) (l .high) i
-  pub off : r .off ≡ also (f .off) (l .off) i
+pub record WithMark (f : MarkFindings) (faults : MarkFaults) (i : ℕ) (r : MarkFindings) : Type 0 where
+  pub code : r .code ≡ also (f .code) (faults .code) i
+  pub date : r .date ≡ also (f .date) (faults .date) i
+  pub high : r .high ≡ also (f .high) (faults .high) i
+  pub off : r .off ≡ also (f .off) (faults .off) i
 
-pub record WithCorrection (f : CorrectionFindings) (l : CorrectionFaults) (i : ℕ) (r : CorrectionFindings) : Type 0 where
-  pub missing : r .missing ≡ also (f .missing) (l .missing) i
-  pub price : r .price ≡ also (f .price) (l .price) i
+pub record WithCorrection (f : CorrectionFindings) (faults : CorrectionFaults) (i : ℕ) (r : CorrectionFindings) : Type 0 where
+  pub missing : r .missing ≡ also (f .missing) (faults .missing) i
+  pub price : r .price ≡ also (f .price) (faults .price) i
 
-pub record WithPosition (f : PositionFindings) (l : PositionFaults) (i : ℕ) (r : PositionFindings) : Type 0 where
-  pub missing : r .missing ≡ also (f .missing) (l .missing) i
-  pub lots : r .lots ≡ also (f .lots) (l .lots) i
+pub record WithPosition (f : PositionFindings) (faults : PositionFaults) (i : ℕ) (r : PositionFindings) : Type 0 where
+  pub missing : r .missing ≡ also (f .missing) (faults .missing) i
+  pub lots : r .lots ≡ also (f .lots) (faults .lots) i
 
 -- the checks one after the other, those that are looked at, by what was found
 abbrev pub markDecision : MarkFindings → Found → Wanted → Decision
@@ -137,12 +137,12 @@ tickAt ms m = tickOf (markAt ms m .code)
 
 pub record Ticks (ms : List Mark) (a : List ℕ) : Type 0 where
   pub few : length ms ≤ fileLimits .marks
-  pub ticks : Holds 0 (tickAt ms) (length ms) a
+  pub ticks : Filled 0 (tickAt ms) (length ms) a
 
 -- an array has for each correction the last earlier one with its number, as one more than its index
 pub record Lasts (cs : List Correction) (a : List ℕ) : Type 0 where
   pub few : length cs ≤ fileLimits .corrections
-  pub lasts : Holds 0 (λ i. last (numberPair cs i) i) (length cs) a
+  pub lasts : Filled 0 (λ i. last (numberPair cs i) i) (length cs) a
 
 -- correction i clashes with correction k − 1; it does not where k is 0
 unfoldable pub clashesBelow : List Correction → ℕ → ℕ → Bool

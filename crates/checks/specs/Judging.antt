@@ -13,7 +13,7 @@ use Rattle.checks.specs.Marks.{markChecks}
 use Rattle.checks.specs.Corrections.{correctionChecks, resentOf}
 use Rattle.checks.specs.Positions.{positionChecks}
 use Rattle.checks.specs.declared.judging.Judged.{Judged}
-use Rattle.checks.specs.declared.judging.Judged.the-variants.{Sound, Refused}
+use Rattle.checks.specs.declared.judging.Judged.the-variants.{Passed, Refused}
 
 -- the checks over the records of three lists: 4 to 13
 abbrev pub recordChecks : Lists → Checks
@@ -26,7 +26,7 @@ fileChecks l f = headerChecks l f before recordChecks (listsOfFile f)
 
 abbrev pub judgedBy : DayFile → ℕ → Decision → Judged
 judgedBy counts resent (Met k i) = Refused k i
-judgedBy counts resent Unmet = Sound counts resent
+judgedBy counts resent Unmet = Passed counts resent
 
 -- the number and the record that refuse a file, or the counts of its header and its resent count
 unfoldable pub judgedOf : Limits → List ℕ → Judged

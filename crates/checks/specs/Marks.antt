@@ -11,7 +11,7 @@ use Rattle.numbers.specs.Checks.{Check, Checks, only, _before_}
 use Rattle.products.specs.Products.{priceLimit, find, monthsOf, Unlisted}
 use Rattle.products.specs.declared.table.Code.{Code}
 use Rattle.products.specs.declared.table.Product.{Product}
-use Rattle.products.specs.declared.table.Found.the-variants.{At}
+use Rattle.products.specs.declared.table.NamedProduct.the-variants.{At}
 use Rattle.dayfile.specs.Limits.{Limits, yearLimit}
 use Rattle.dayfile.specs.Records.{markAt}
 use Rattle.dayfile.specs.declared.records.Mark.{Mark}
@@ -21,11 +21,11 @@ use Rattle.checks.specs.Table.{aboveLimit, listed, quoted, tickOf}
 
 -- the product table has the code, and the month is one of the product's
 abbrev pub Quoted : Code → ℕ → Type 0
-Quoted code month = (q : Product) × (find code ≡ At q) × List·Memᴰ month (monthsOf q)
+Quoted code month = (product : Product) × (find code ≡ At product) × List·Memᴰ month (monthsOf product)
 
 -- a price is not a multiple of the tick of a mark's product
 abbrev pub OffTick : Mark → ℕ → Type 0
-OffTick m p = (q : Product) × (find (m .code) ≡ At q) × ¬ (q .tick ∣ p)
+OffTick m p = (product : Product) × (find (m .code) ≡ At product) × ¬ (product .tick ∣ p)
 
 abbrev pub offTick : Mark → ℕ → Bool
 offTick m p = not (eqb (p % tickOf (m .code)) 0)
@@ -54,8 +54,8 @@ badDate m = not (quoted (m .code) (m .month)) || ltb yearLimit (m .year)
 abbrev pub highMark : Mark → Bool
 highMark m = aboveLimit (m .previous) || aboveLimit (m .today)
 
-abbrev pub offMark : Mark → Bool
-offMark m = offTick m (m .previous) || offTick m (m .today)
+abbrev pub offTickMark : Mark → Bool
+offTickMark m = offTick m (m .previous) || offTick m (m .today)
 
 -- ---- the checks
 
@@ -69,33 +69,33 @@ pub data MarkCheck : Type 0 where
 module _ (ms : List Mark) where
   abbrev pub markCheck : MarkCheck → Check
   -- 4: a mark's code is not in the product table
-  markCheck MarkCode = record { number = 4; Wrong = λ i. Unlisted (markAt ms i .code); test = λ i. badCode (markAt ms i) }
+  markCheck MarkCode = record { number = 4; Condition = λ i. Unlisted (markAt ms i .code); test = λ i. badCode (markAt ms i) }
   -- 5: a mark's month is not one of its product's months, or its year is above 99
   markCheck MarkDate =
       record {
         number = 5;
-        Wrong = λ i. let m = markAt ms i in ¬ (Quoted (m .code) (m .month)) ⊎ (yearLimit < m .year);
+        Condition = λ i. let m = markAt ms i in ¬ (Quoted (m .code) (m .month)) ⊎ (yearLimit < m .year);
         test = λ i. badDate (markAt ms i);
       }
   -- 6: a mark's price is above 1,000,000
   markCheck MarkLimit =
       record {
         number = 6;
-        Wrong = λ i. let m = markAt ms i in (priceLimit < m .previous) ⊎ (priceLimit < m .today);
+        Condition = λ i. let m = markAt ms i in (priceLimit < m .previous) ⊎ (priceLimit < m .today);
         test = λ i. highMark (markAt ms i);
       }
   -- 7: a mark's price is not a multiple of its product's tick
   markCheck MarkTick =
       record {
         number = 7;
-        Wrong = λ i. let m = markAt ms i in OffTick m (m .previous) ⊎ OffTick m (m .today);
-        test = λ i. offMark (markAt ms i);
+        Condition = λ i. let m = markAt ms i in OffTick m (m .previous) ⊎ OffTick m (m .today);
+        test = λ i. offTickMark (markAt ms i);
       }
   -- 8: a mark agrees with an earlier one in code, month and year
   markCheck MarkRepeated =
       record {
         number = 8;
-        Wrong = λ i. (j : ℕ) × (j < i) × SameContract (markAt ms i) (markAt ms j);
+        Condition = λ i. (j : ℕ) × (j < i) × SameContract (markAt ms i) (markAt ms j);
         test = repeating (contractPair ms);
       }
 
@@ -111,7 +111,7 @@ module _ (ms : List Mark) where
 -- the same of a list that stands in no file: 2 where a file may not have as many marks, before the others
 module _ (l : Limits) (ms : List Mark) where
   abbrev pub tooManyMarks : Check
-  tooManyMarks = record { number = 2; Wrong = λ i. l .marks < length ms; test = λ i. ltb (l .marks) (length ms) }
+  tooManyMarks = record { number = 2; Condition = λ i. l .marks < length ms; test = λ i. ltb (l .marks) (length ms) }
 
   abbrev pub markListChecks : Checks
   markListChecks = only tooManyMarks before markChecks ms

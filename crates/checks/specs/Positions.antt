@@ -32,14 +32,14 @@ module _ (ms : List Mark) (ps : List Position) where
   positionCheck PositionMark =
       record {
         number = 12;
-        Wrong = λ i. length ms ≤ positionAt ps i .mark;
+        Condition = λ i. length ms ≤ positionAt ps i .mark;
         test = λ i. noMark ms (positionAt ps i .mark);
       }
   -- 13: a position's lots are 0, below −1,000,000 or above 1,000,000
   positionCheck PositionLots =
       record {
         number = 13;
-        Wrong = λ i. let z = positionAt ps i .lots in (z ≡ pos 0) ⊎ (z <ℤ negℤ (pos lotsLimit)) ⊎ (pos lotsLimit <ℤ z);
+        Condition = λ i. let z = positionAt ps i .lots in (z ≡ pos 0) ⊎ (z <ℤ negℤ (pos lotsLimit)) ⊎ (pos lotsLimit <ℤ z);
         test = λ i. badLots (positionAt ps i .lots);
       }
 
@@ -53,7 +53,7 @@ module _ (l : Limits) (ms : List Mark) (ps : List Position) where
   tooManyPositions =
       record {
         number = 2;
-        Wrong = λ i. (l .marks < length ms) ⊎ (l .positions < length ps);
+        Condition = λ i. (l .marks < length ms) ⊎ (l .positions < length ps);
         test = λ i. ltb (l .marks) (length ms) || ltb (l .positions) (length ps);
       }
 

@@ -4,20 +4,20 @@ use mathlib.Core.Bool.{Bool, true, false}
 use lib.Dec.{ltb}
 use Rattle.products.specs.Products.{priceLimit, find, hasMonth}
 use Rattle.products.specs.declared.table.Code.{Code}
-use Rattle.products.specs.declared.table.Found.{Found}
-use Rattle.products.specs.declared.table.Found.the-variants.{At, Missing}
+use Rattle.products.specs.declared.table.NamedProduct.{NamedProduct}
+use Rattle.products.specs.declared.table.NamedProduct.the-variants.{At, Missing}
 
-abbrev pub listedIn : Found → Bool
-listedIn (At q) = true
+abbrev pub listedIn : NamedProduct → Bool
+listedIn (At product) = true
 listedIn Missing = false
 
-abbrev pub quotedIn : Found → ℕ → Bool
-quotedIn (At q) m = hasMonth q m
+abbrev pub quotedIn : NamedProduct → ℕ → Bool
+quotedIn (At product) m = hasMonth product m
 quotedIn Missing m = false
 
 -- a tick, 1 where there is no product
-abbrev pub tickIn : Found → ℕ
-tickIn (At q) = q .tick
+abbrev pub tickIn : NamedProduct → ℕ
+tickIn (At product) = product .tick
 tickIn Missing = 1
 
 -- a price is above the highest one

@@ -50,10 +50,10 @@ fn faults(marks: &[u8], ticks: &[u32; DayFile::MAX_MARKS], c: Correction) -> Cor
     }
 }
 
-fn any_fault(l: CorrectionFaults) -> bool
-    ensures { λ r. ⌜ r ≡ anyCorrectionFault l ⌝ }
+fn any_fault(faults: CorrectionFaults) -> bool
+    ensures { λ r. ⌜ r ≡ anyCorrectionFault faults ⌝ }
 {
-    l.missing | l.price
+    faults.missing | faults.price
 }
 
 // Whether anything is wrong with some correction by itself.
@@ -78,14 +78,14 @@ pub struct CorrectionFindings {
 }
 
 // One correction more.
-fn with_correction(f: CorrectionFindings, l: CorrectionFaults, i: usize) -> CorrectionFindings
-    ensures { λ r. ⌜ WithCorrection f l i r ⌝ }
+fn with_correction(f: CorrectionFindings, faults: CorrectionFaults, i: usize) -> CorrectionFindings
+    ensures { λ r. ⌜ WithCorrection f faults i r ⌝ }
 {
     let missing = f.missing;
     let price = f.price;
     CorrectionFindings {
-        missing: missing.or_at(l.missing, i),
-        price: price.or_at(l.price, i),
+        missing: missing.or_at(faults.missing, i),
+        price: price.or_at(faults.price, i),
     }
 }
 

@@ -11,13 +11,13 @@ ghost use Rattle.numbers.specs.Checks.{decisionFor};
 ghost use Rattle.numbers.specs.declared.deciding.Wanted.the-variants.{One};
 ghost use Rattle.dayfile.specs.Limits.{fileLimits};
 ghost use Rattle.dayfile.specs.Records.{listsOf};
-ghost use Rattle.dayfile.specs.Steps.{Small};
+ghost use Rattle.dayfile.specs.WithinLimits.{ListsWithinLimits};
 ghost use Rattle.checks.specs.Judging.{recordChecks};
 ghost use Rattle.checks.specs.Finding.{foundOf};
 
 // What check k decides by itself, of those over records.
 fn decide_one(marks: &[u8], corrections: &[u8], positions: &[u8], k: u32) -> Decision
-    requires { ⌜ Small (listsOf (now marks) (now corrections) (now positions)) ⌝ }
+    requires { ⌜ ListsWithinLimits (listsOf (now marks) (now corrections) (now positions)) ⌝ }
     ensures { λ r. ⌜ r ≡ decisionFor (recordChecks (listsOf (now (marks .entry)) (now (corrections .entry)) (now (positions .entry))))
         (One k) ⌝ }
 {

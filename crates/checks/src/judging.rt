@@ -11,14 +11,14 @@ ghost use mathlib.Core.Path.{_≡_};
 ghost use Rattle.numbers.specs.Checks.{decisionOf, decisionFor};
 ghost use Rattle.dayfile.specs.Limits.{fileLimits};
 ghost use Rattle.dayfile.specs.Records.{listsOf, correctionsIn};
-ghost use Rattle.dayfile.specs.Steps.{Small};
+ghost use Rattle.dayfile.specs.WithinLimits.{ListsWithinLimits};
 ghost use Rattle.checks.specs.Corrections.{resentOf};
 ghost use Rattle.checks.specs.Judging.{recordChecks, judgedBy, judgedOf};
 
 // A file that passes checks 1 to 13: its counts, and how many of its corrections bear a number that an earlier one bears. Or the number of
 // the check that turns it away, and the record's index.
 pub enum Judged {
-    Sound { counts: DayFile, resent: usize },
+    Passed { counts: DayFile, resent: usize },
     Refused { number: u32, index: usize },
 }
 
@@ -35,7 +35,7 @@ pub(crate) fn decide_records(
     positions: &[u8],
     wanted: Wanted,
 ) -> RecordsJudged
-    requires { ⌜ Small (listsOf (now marks) (now corrections) (now positions)) ⌝ }
+    requires { ⌜ ListsWithinLimits (listsOf (now marks) (now corrections) (now positions)) ⌝ }
     ensures { λ r. ⌜ (r .decision
         ≡ decisionFor (recordChecks (listsOf (now (marks .entry)) (now (corrections .entry)) (now (positions .entry)))) wanted)
         × (r .resent ≡ resentOf (correctionsIn (now (corrections .entry)))) ⌝ }
@@ -53,7 +53,7 @@ pub(crate) fn decide_records(
 
 // What all checks over the records say.
 fn judge_records(marks: &[u8], corrections: &[u8], positions: &[u8], counts: DayFile) -> Judged
-    requires { ⌜ Small (listsOf (now marks) (now corrections) (now positions)) ⌝ }
+    requires { ⌜ ListsWithinLimits (listsOf (now marks) (now corrections) (now positions)) ⌝ }
     ensures { λ r. ⌜ r ≡ judgedBy counts (resentOf (correctionsIn (now (corrections .entry))))
         (decisionOf (recordChecks (listsOf (now (marks .entry)) (now (corrections .entry)) (now (positions .entry))))) ⌝ }
 {
@@ -61,7 +61,7 @@ fn judge_records(marks: &[u8], corrections: &[u8], positions: &[u8], counts: Day
     let decision = judged.decision;
     match decision {
         Decision::Met { number, index } => Judged::Refused { number, index },
-        Decision::Unmet => Judged::Sound {
+        Decision::Unmet => Judged::Passed {
             counts,
             resent: judged.resent,
         },

@@ -54,15 +54,15 @@ fn is_high(m: Mark) -> bool
 }
 
 // The faults of a mark of a product.
-fn faults_by(q: Product, m: Mark) -> MarkFaults
-    ensures { λ r. ⌜ r ≡ faultsBy q m ⌝ }
+fn faults_by(product: Product, m: Mark) -> MarkFaults
+    ensures { λ r. ⌜ r ≡ faultsBy product m ⌝ }
 {
     MarkFaults {
         code: false,
-        date: !has_month(q, m.month) | (m.year > YEAR_LIMIT),
+        date: !has_month(product, m.month) | (m.year > YEAR_LIMIT),
         high: is_high(m),
-        off: off_tick(m.previous, q.tick) | off_tick(m.today, q.tick),
-        tick: q.tick,
+        off: off_tick(m.previous, product.tick) | off_tick(m.today, product.tick),
+        tick: product.tick,
     }
 }
 
@@ -71,8 +71,8 @@ fn faults(m: Mark) -> MarkFaults
     ensures { λ r. ⌜ r ≡ markFaults m ⌝ }
 {
     match lookup(m.code) {
-        products::Found::At(q) => faults_by(q, m),
-        products::Found::Missing => MarkFaults {
+        products::NamedProduct::At(product) => faults_by(product, m),
+        products::NamedProduct::Missing => MarkFaults {
             code: true,
             date: true,
             high: is_high(m),
@@ -82,10 +82,10 @@ fn faults(m: Mark) -> MarkFaults
     }
 }
 
-fn any_fault(l: MarkFaults) -> bool
-    ensures { λ r. ⌜ r ≡ anyMarkFault l ⌝ }
+fn any_fault(faults: MarkFaults) -> bool
+    ensures { λ r. ⌜ r ≡ anyMarkFault faults ⌝ }
 {
-    l.code | l.date | l.high | l.off
+    faults.code | faults.date | faults.high | faults.off
 }
 
 // Whether anything is wrong with some mark by itself. Writes the ticks of all marks.
@@ -97,9 +97,9 @@ pub(crate) fn some_fault(marks: &[u8], ticks: &mut [u32; DayFile::MAX_MARKS]) ->
     let mut bad = false;
     let mut i = 0;
     while i < n {
-        let l = faults(mark_at(marks, i));
-        bad = bad | any_fault(l);
-        ticks[i] = l.tick;
+        let of_mark = faults(mark_at(marks, i));
+        bad = bad | any_fault(of_mark);
+        ticks[i] = of_mark.tick;
         i += 1;
     }
     bad
@@ -114,18 +114,18 @@ pub struct MarkFindings {
 }
 
 // One mark more.
-fn with_mark(f: MarkFindings, l: MarkFaults, i: usize) -> MarkFindings
-    ensures { λ r. ⌜ WithMark f l i r ⌝ }
+fn with_mark(f: MarkFindings, faults: MarkFaults, i: usize) -> MarkFindings
+    ensures { λ r. ⌜ WithMark f faults i r ⌝ }
 {
     let code = f.code;
     let date = f.date;
     let high = f.high;
     let off = f.off;
     MarkFindings {
-        code: code.or_at(l.code, i),
-        date: date.or_at(l.date, i),
-        high: high.or_at(l.high, i),
-        off: off.or_at(l.off, i),
+        code: code.or_at(faults.code, i),
+        date: date.or_at(faults.date, i),
+        high: high.or_at(faults.high, i),
+        off: off.or_at(faults.off, i),
     }
 }
 

@@ -41,10 +41,10 @@ fn faults(n: u32, w: RawPosition) -> PositionFaults
     }
 }
 
-fn any_fault(l: PositionFaults) -> bool
-    ensures { λ r. ⌜ r ≡ anyPositionFault l ⌝ }
+fn any_fault(faults: PositionFaults) -> bool
+    ensures { λ r. ⌜ r ≡ anyPositionFault faults ⌝ }
 {
-    l.missing | l.lots
+    faults.missing | faults.lots
 }
 
 // How many marks, as a u32.
@@ -78,14 +78,14 @@ pub struct PositionFindings {
 }
 
 // One position more.
-fn with_position(f: PositionFindings, l: PositionFaults, i: usize) -> PositionFindings
-    ensures { λ r. ⌜ WithPosition f l i r ⌝ }
+fn with_position(f: PositionFindings, faults: PositionFaults, i: usize) -> PositionFindings
+    ensures { λ r. ⌜ WithPosition f faults i r ⌝ }
 {
     let missing = f.missing;
     let lots = f.lots;
     PositionFindings {
-        missing: missing.or_at(l.missing, i),
-        lots: lots.or_at(l.lots, i),
+        missing: missing.or_at(faults.missing, i),
+        lots: lots.or_at(faults.lots, i),
     }
 }
 

@@ -11,7 +11,7 @@ use Rattle.dayfile.specs.Records.{markSize, correctionSize, positionSize
 use Rattle.dayfile.specs.Limits.{fileLimits}
 use Rattle.dayfile.specs.Layout.{headerSize, countsOf, correctionsStart, positionsStart, lengthOf, markBytes, correctionBytes, positionBytes}
 use Rattle.dayfile.specs.Opening.{openedOf}
-use Rattle.dayfile.specs.Steps.{Limited}
+use Rattle.dayfile.specs.WithinLimits.{CountsWithinLimits}
 use Rattle.dayfile.specs.Making.{countsIn, entryBytes, headerOf, madeOf}
 use Rattle.dayfile.specs.declared.file.DayFile.{DayFile}
 use Rattle.dayfile.specs.declared.file.Opened.the-variants.{File}
@@ -19,8 +19,8 @@ use Rattle.dayfile.proofs.Parts.{marks-sized, corrections-sized, positi
 use Rattle.dayfile.proofs.Opening.{laid-out}
 
 -- three lists of whole records within the file's limits, with their counts
-pub record Whole (ms cs ps : List ℕ) (d : DayFile) : Type 0 where
-  pub limited : Limited d
+pub record WholeRecords (ms cs ps : List ℕ) (d : DayFile) : Type 0 where
+  pub counts-within : CountsWithinLimits d
   pub counts : d ≡ countsIn ms cs ps
   pub marks : length ms ≡ markSize * d .marks
   pub corrections : length cs ≡ correctionSize * d .corrections
@@ -39,7 +39,7 @@ made-by ms cs ps e = ap (λ d. headerOf d ++ ms ++ cs ++ ps) e
 pub counts-by : (d : DayFile) {a b c : ℕ} → a ≡ d .marks → b ≡ d .corrections → c ≡ d .positions → _≡_ {A = DayFile} (record { marks = a; corrections = b; positions = c }) d
 counts-by d p q r = rw (p, q, r)
 
-module _ (ms cs ps : List ℕ) (d : DayFile) (w : Whole ms cs ps d) where
+module _ (ms cs ps : List ℕ) (d : DayFile) (w : WholeRecords ms cs ps d) where
   abbrev made : List ℕ
   made = madeOf ms cs ps
 
@@ -49,7 +49,7 @@ module _ (ms cs ps : List ℕ) (d : DayFile) (w : Whole ms cs ps d) where
   pub made-counts : countsOf made ≡ d
   unfolding countsOf u32At headerOf entryBytes u32Bytes
   made-counts =
-      let l = w .limited in
+      let l = w .counts-within in
       rw made-is (counts-by d (from-bytes (d .marks) (omega arith)) (from-bytes (d .corrections) (omega arith)) (from-bytes (d .positions) (omega arith)))
 
   pub made-length : length made ≡ lengthOf d
@@ -63,11 +63,11 @@ module _ (ms cs ps : List ℕ) (d : DayFile) (w : Whole ms cs ps d) where
 
   pub made-corrections-at : u32At made 12 ≡ correctionsStart d
   unfolding u32At headerOf entryBytes u32Bytes
-  made-corrections-at = let l = w .limited in rw made-is (from-bytes (correctionsStart d) (omega arith))
+  made-corrections-at = let l = w .counts-within in rw made-is (from-bytes (correctionsStart d) (omega arith))
 
   pub made-positions-at : u32At made 20 ≡ positionsStart d
   unfolding u32At headerOf entryBytes u32Bytes
-  made-positions-at = let l = w .limited in rw made-is (from-bytes (positionsStart d) (omega arith))
+  made-positions-at = let l = w .counts-within in rw made-is (from-bytes (positionsStart d) (omega arith))
 
   pub made-marks : markBytes made d ≡ ms
   made-marks = rw (made-is, append-assoc (headerOf d ++ ms) cs ps) (part-at (headerOf d) ms (cs ++ ps) headerSize (markSize * d .marks) (length-header d) (w .marks))
@@ -86,13 +86,13 @@ module _ (ms cs ps : List ℕ) (d : DayFile) (w : Whole ms cs ps d) where
 
 module _ (f : List ℕ) {d : DayFile} (o : openedOf fileLimits f ≡ File d) where
   -- the sections of a file that opens are whole records
-  pub sections-whole : Whole (markBytes f d) (correctionBytes f d) (positionBytes f d) d
+  pub sections-whole : WholeRecords (markBytes f d) (correctionBytes f d) (positionBytes f d) d
   unfolding countsIn
   sections-whole =
       let h = laid-out f o in
       let n = h .whole in
       record {
-        limited = h .limited;
+        counts-within = h .counts-within;
         counts = sym (counts-by d (marks-sized f d (h .whole)) (corrections-sized f d (h .whole)) (positions-sized f d (h .whole)));
         marks = length-part headerSize (markSize * d .marks) f (omega arith);
         corrections = length-part (correctionsStart d) (correctionSize * d .corrections) f (omega arith);

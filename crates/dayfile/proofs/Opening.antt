@@ -17,7 +17,7 @@ use Rattle.numbers.specs.declared.deciding.Decision.the-variants.{Unmet}
 use Rattle.dayfile.specs.Limits.{Limits, fileLimits}
 use Rattle.dayfile.specs.Layout.{countsOf, headerSize, correctionsStart, positionsStart, lengthOf}
 use Rattle.dayfile.specs.Opening.{withinLimits, asLaidOut, openedBy, openedOf, countedOf}
-use Rattle.dayfile.specs.Steps.{Limited, LaidOut}
+use Rattle.dayfile.specs.WithinLimits.{CountsWithinLimits, LaidOut}
 use Rattle.dayfile.specs.declared.file.DayFile.{DayFile}
 use Rattle.dayfile.specs.declared.file.Opened.the-variants.{File, Refused}
 use Rattle.numbers.proofs.Truth.{and-left, and-right}
@@ -40,7 +40,7 @@ module _ (l : Limits) (f : List ℕ) where
 
 -- ---- a file that passes
 
-pub record Laid (l : Limits) (f : List ℕ) : Type 0 where
+pub record Opens (l : Limits) (f : List ℕ) : Type 0 where
   pub header : headerSize ≤ length f
   pub marks-fit : u32At f 0 ≤ l .marks
   pub corrections-fit : u32At f 8 ≤ l .corrections
@@ -58,9 +58,9 @@ module _ (l : Limits) (f : List ℕ) where
   by-tests false true false p = absurd (let z : _≡_ {A = ℕ} 0 1 = cc in omega arith)
   by-tests false true true p = (refl, refl, refl, cc)
 
-  laid-of : ltb (length f) headerSize ≡ false → withinLimits l (countsOf f) ≡ true → asLaidOut f (countsOf f) ≡ true → Laid l f
+  opens-of : ltb (length f) headerSize ≡ false → withinLimits l (countsOf f) ≡ true → asLaidOut f (countsOf f) ≡ true → Opens l f
   unfolding countsOf
-  laid-of a b c =
+  opens-of a b c =
       let d = countsOf f in
       let b′ = and-left (leb (d .marks) (l .marks) && leb (d .corrections) (l .corrections)) (leb (d .positions) (l .positions)) b in
       let c′ = and-left (eqb (u32At f 4) headerSize && eqb (u32At f 12) (correctionsStart d) && eqb (u32At f 20) (positionsStart d)) (eqb (length f) (lengthOf d)) c in
@@ -76,14 +76,14 @@ module _ (l : Limits) (f : List ℕ) where
         ends-at = eqb-true _ _ (and-right (eqb (u32At f 4) headerSize && eqb (u32At f 12) (correctionsStart d) && eqb (u32At f 20) (positionsStart d)) (eqb (length f) (lengthOf d)) c);
       }
 
-  pub opens : {d : DayFile} → openedOf l f ≡ File d → Laid l f × (countsOf f ≡ d)
+  pub opens : {d : DayFile} → openedOf l f ≡ File d → Opens l f × (countsOf f ≡ d)
   opens p =
       let (a, b, c, e) = by-tests (ltb (length f) headerSize) (withinLimits l (countsOf f)) (asLaidOut f (countsOf f)) (sym (opened-by-tests l f) ∙ p) in
-      (laid-of a b c, e)
+      (opens-of a b c, e)
 
-  pub laid-opens : Laid l f → openedOf l f ≡ File (countsOf f)
+  pub opens-file : Opens l f → openedOf l f ≡ File (countsOf f)
   unfolding countsOf
-  laid-opens h =
+  opens-file h =
       opened-by-tests l f
       ∙ simp (
         le-ltb _ _ (h .header),
@@ -121,8 +121,8 @@ module _ (l : Limits) (f : List ℕ) where
       refused-by-two (ltb (length f) headerSize) (withinLimits l (countsOf f)) (asLaidOut f (countsOf f)) p ∙ sym (opened-by-tests l f)
 
 -- counts that pass the test are within the day file's own limits
-pub limited : (d : DayFile) → withinLimits fileLimits d ≡ true → Limited d
-limited d p =
+pub counts-within : (d : DayFile) → withinLimits fileLimits d ≡ true → CountsWithinLimits d
+counts-within d p =
     let m = leb (d .marks) (fileLimits .marks) in
     let c = leb (d .corrections) (fileLimits .corrections) in
     let n = leb (d .positions) (fileLimits .positions) in
@@ -138,7 +138,7 @@ pub laid-out : (f : List ℕ) {d : DayFile} → openedOf fileLimits f ≡ File d
 unfolding countsOf
 laid-out f p =
     let (h, e) = opens fileLimits f p in
-    rw (← e) (record { limited = record { marks = h .marks-fit; corrections = h .corrections-fit; positions = h .positions-fit }; whole = h .ends-at })
+    rw (← e) (record { counts-within = record { marks = h .marks-fit; corrections = h .corrections-fit; positions = h .positions-fit }; whole = h .ends-at })
 
 -- a file longer than the limits allow is refused with 2 or 3
 pub too-long : (f : List ℕ) → 58392 < length f → (openedOf fileLimits f ≡ Refused 2) ⊎ (openedOf fileLimits f ≡ Refused 3)
@@ -153,5 +153,5 @@ too-long f h = go (withinLimits fileLimits (countsOf f)) refl (asLaidOut f (coun
     go false p laid q = inl (opened-by-tests fileLimits f ∙ rw (whole-header, p))
     go true p false q = inr (opened-by-tests fileLimits f ∙ rw (whole-header, p, q))
     go true p true q =
-        let g = laid-of fileLimits f whole-header p q in
+        let g = opens-of fileLimits f whole-header p q in
         absurd (omega (arith, g .ends-at, g .marks-fit, g .corrections-fit, g .positions-fit))

@@ -7,7 +7,7 @@ use lib.ListN.{length}
 use Rattle.numbers.specs.Bytes.{u32At, part, recordsOf}
 use Rattle.dayfile.specs.Records.{markSize, correctionSize, positionSize, markOf, correctionOf, positionOf, listsOf}
 use Rattle.dayfile.specs.Layout.{countsOf, lengthOf, headerSize, correctionsStart, positionsStart, markBytes, correctionBytes, positionBytes, listsIn, listsOfFile}
-use Rattle.dayfile.specs.Steps.{Limited, Small}
+use Rattle.dayfile.specs.WithinLimits.{CountsWithinLimits, ListsWithinLimits}
 use Rattle.dayfile.specs.declared.file.DayFile.{DayFile}
 use Rattle.numbers.proofs.Sections.{size-is, length-part, part-within}
 
@@ -31,8 +31,8 @@ few : {R : Type 0} (f : List ℕ → R) (a n : ℕ) (s : List ℕ) {m : ℕ} →
 few f a n s h = rw (size-is f 12 (part a (12 * n) s)) (omega (arith, part-within a (12 * n) s))
 
 -- those of a file with counts within the limits are within them, whatever its length
-pub small : (s : List ℕ) (d : DayFile) → Limited d → Small (listsIn s d)
-small s d h =
+pub lists-within : (s : List ℕ) (d : DayFile) → CountsWithinLimits d → ListsWithinLimits (listsIn s d)
+lists-within s d h =
     record {
       marks = few markOf headerSize (d .marks) s (h .marks);
       corrections = few correctionOf (correctionsStart d) (d .corrections) s (h .corrections);

@@ -3,4 +3,4 @@ pub mod Records
 pub mod Layout
 pub mod Opening
 pub mod Making
-pub mod Steps
+pub mod WithinLimits

@@ -34,19 +34,20 @@ pub data HeaderCheck : Type 0 where
 module _ (l : Limits) (f : List ℕ) where
   abbrev pub headerCheck : HeaderCheck → Check
   -- 1: the file is shorter than 24 bytes
-  headerCheck Short = record { number = 1; Wrong = λ i. length f < headerSize; test = λ i. ltb (length f) headerSize }
+  headerCheck Short = record { number = 1; Condition = λ i. length f < headerSize; test = λ i. ltb (length f) headerSize }
   -- 2: a count is above its limit
   headerCheck Counts =
       record {
         number = 2;
-        Wrong = λ i. (l .marks < countsOf f .marks) ⊎ (l .corrections < countsOf f .corrections) ⊎ (l .positions < countsOf f .positions);
+        Condition = λ i.
+            (l .marks < countsOf f .marks) ⊎ (l .corrections < countsOf f .corrections) ⊎ (l .positions < countsOf f .positions);
         test = λ i. not (withinLimits l (countsOf f));
       }
   -- 3: an offset or the file's length differs from the layout
   headerCheck Layout =
       record {
         number = 3;
-        Wrong =
+        Condition =
             λ i. (u32At f 4 ≢ headerSize) ⊎ (u32At f 12 ≢ correctionsStart (countsOf f)) ⊎ (u32At f 20 ≢ positionsStart (countsOf f))
             ⊎ (length f ≢ lengthOf (countsOf f));
         test = λ i. not (asLaidOut f (countsOf f));

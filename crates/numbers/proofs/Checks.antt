@@ -25,7 +25,7 @@ use Rattle.numbers.proofs.Order.{Finds, first-finds, met-exactly, clear
 
 -- each test is true exactly where its words say that something is wrong
 abbrev pub Agree : Checks → Type 0
-Agree cs = (c : cs .Name) (i : ℕ) → Tells (cs .check c .test i) (cs .check c .Wrong i)
+Agree cs = (c : cs .Name) (i : ℕ) → Tells (cs .check c .test i) (cs .check c .Condition i)
 
 module _ (cs : Checks) (agree : Agree cs) where
   pub finds : (c : cs .Name) → Finds (HoldsAt cs c) (findingOf cs c)
@@ -45,7 +45,7 @@ pub agree-before : (p q : Checks) → Agree p → Agree q → Agree (p before q)
 agree-before p q a b (inl c) = a c
 agree-before p q a b (inr c) = b c
 
-pub agree-only : (c : Check) → ((i : ℕ) → Tells (c .test i) (c .Wrong i)) → Agree (only c)
+pub agree-only : (c : Check) → ((i : ℕ) → Tells (c .test i) (c .Condition i)) → Agree (only c)
 agree-only c t n = t
 
 -- ---- checks that pass

@@ -2,7 +2,7 @@ pub mod Truth
 pub mod Chain
 pub mod Searches
 pub mod Last
-pub mod Held
+pub mod Filled
 pub mod Counting
 pub mod Order
 pub mod Checks

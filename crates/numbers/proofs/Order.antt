@@ -135,17 +135,17 @@ module _ {R : Type 0} (number : R → ℕ) (finding : R → Found) where
     decided [] p = absurd (let z : _≡_ {A = ℕ} 0 1 = cc in omega arith)
     decided (c ∷ cs) p = by-found c cs (finding c) refl p (decided cs)
 
-    behind : (es : List R) (c : R) (cs : List R) {i : ℕ} → ((b : R) → List·Memᴰ b es → finding b ≡ Nothing) → finding c ≡ At i
+    after-none : (es : List R) (c : R) (cs : List R) {i : ℕ} → ((b : R) → List·Memᴰ b es → finding b ≡ Nothing) → finding c ≡ At i
         → decision number finding (es ++ (c ∷ cs)) ≡ Met (number c) i
-    behind [] c cs none e = rw e
-    behind (b ∷ es) c cs none e = rw (none b (List·Memᴰ·head refl)) (behind es c cs (λ x m. none x (List·Memᴰ·tail m)) e)
+    after-none [] c cs none e = rw e
+    after-none (b ∷ es) c cs none e = rw (none b (List·Memᴰ·head refl)) (after-none es c cs (λ x m. none x (List·Memᴰ·tail m)) e)
 
     -- condition k decides at i exactly where the decision says so
     pub met-exactly : (cs : List R) {k i : ℕ} → (decision number finding cs ≡ Met k i) ↔ Decides number Holds cs k i
     met-exactly cs {k} {i} = (
       decided cs,
       λ d. rw (d .ordered, ← d .numbered)
-          (behind (d .earlier) (d .condition) (d .later) (λ b m. none-found (finds b) (d .none-earlier b m)) (found-there (finds (d .condition)) i (d .here) (d .first))),
+          (after-none (d .earlier) (d .condition) (d .later) (λ b m. none-found (finds b) (d .none-earlier b m)) (found-there (finds (d .condition)) i (d .here) (d .first))),
     )
 
     -- and none holds exactly where the decision is clear

@@ -35,7 +35,7 @@ module _ {A : Type 0} (f : ℕ → A) where
   pub take-front : (a : List A) (n : ℕ) → take n (front f a n) ≡ table f n
   take-front a n = take-at (table f n) (drop n a) n (length-table n)
 
-  -- and those behind them
+  -- and those after them
   pub drop-front : (a : List A) (n : ℕ) → drop n (front f a n) ≡ drop n a
   drop-front a n = drop-at (table f n) (drop n a) n (length-table n)
 

@@ -11,7 +11,7 @@ use Rattle.numbers.specs.declared.deciding.Wanted.{Wanted}
 
 pub record Check : Type 1 where
   pub number : ℕ
-  pub Wrong : ℕ → Type 0
+  pub Condition : ℕ → Type 0
   pub test : ℕ → Bool
 
 -- checks by their names, how many records each looks at, and the order in which they run
@@ -25,15 +25,15 @@ pub record Checks : Type 1 where
 abbrev pub only : Check → Checks
 only c = record { Name = Unit {0}; check = λ n. c; size = λ n. 1; order = tt ∷ [] }
 
--- first those of p, then those of q
+-- first those of a, then those of b
 infixr 5 _before_
 abbrev pub _before_ : Checks → Checks → Checks
-p before q =
+a before b =
     record {
-      Name = p .Name ⊎ q .Name;
-      check = ⊎-elim (p .check) (q .check);
-      size = ⊎-elim (p .size) (q .size);
-      order = map inl (p .order) ++ map inr (q .order);
+      Name = a .Name ⊎ b .Name;
+      check = ⊎-elim (a .check) (b .check);
+      size = ⊎-elim (a .size) (b .size);
+      order = map inl (a .order) ++ map inr (b .order);
     }
 
 module _ (cs : Checks) where
@@ -42,7 +42,7 @@ module _ (cs : Checks) where
 
   -- the condition of a check holds at the record with index i
   abbrev pub HoldsAt : cs .Name → ℕ → Type 0
-  HoldsAt c i = (i < cs .size c) × cs .check c .Wrong i
+  HoldsAt c i = (i < cs .size c) × cs .check c .Condition i
 
   -- Check k refuses at record i: its condition holds there and at no record before it, and no condition of a check that stands before it in
   -- the order holds at any record.

@@ -57,5 +57,5 @@ abbrev pub front : {A : Type 0} → (ℕ → A) → List A → ℕ → List A
 front f a n = table f n ++ drop n a
 
 -- a list has f 0 .. f (n - 1) in its first n places; d is read past its end
-pub record Holds {A : Type 0} (d : A) (f : ℕ → A) (n : ℕ) (r : List A) : Type 0 where
+pub record Filled {A : Type 0} (d : A) (f : ℕ → A) (n : ℕ) (r : List A) : Type 0 where
   pub entry : (i : ℕ) → i < n → getD r i d ≡ f i

@@ -17,7 +17,7 @@ use Rattle.pricing.specs.Value.{scale, billDividend, billDivisor, bondDi
 use Rattle.pricing.specs.Accuracy.{twiceDistance, numberIn, accuracyFigures, accuracyOf}
 use Rattle.products.specs.declared.table.Code.{Code}
 use Rattle.products.specs.declared.table.Product.{Product}
-use Rattle.products.specs.declared.table.Found.the-variants.{At}
+use Rattle.products.specs.declared.table.NamedProduct.the-variants.{At}
 use Rattle.products.specs.declared.table.Terms.{Terms}
 use Rattle.products.specs.declared.table.Terms.the-variants.{Bill, Bond, CashRate}
 use Rattle.pricing.proofs.Distance.{ladder-distance}

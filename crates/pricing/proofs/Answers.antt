@@ -10,8 +10,8 @@ use Rattle.pricing.specs.Value.{valueBy, exactBy, exactOf}
 use Rattle.pricing.specs.Calls.{Answer, given, refused, check, ofProduct, atPrice, valueOf, tickValueOf}
 use Rattle.products.specs.declared.table.Code.{Code}
 use Rattle.products.specs.declared.table.Product.{Product}
-use Rattle.products.specs.declared.table.Found.{Found}
-use Rattle.products.specs.declared.table.Found.the-variants.{At, Missing}
+use Rattle.products.specs.declared.table.NamedProduct.{NamedProduct}
+use Rattle.products.specs.declared.table.NamedProduct.the-variants.{At, Missing}
 
 -- two answers that differ
 pub not-given : {A : Type 0} {k i n : ℕ} → refused k i ≡ given n → A
@@ -44,7 +44,7 @@ pub record Priced (code : Code) (p : ℕ) (a : Product → Answer) (n : ℕ) : T
 pub answered : (code : Code) (p : ℕ) (a : Product → Answer) {n : ℕ} → ofProduct (find code) (λ q. atPrice (q .tick) p (a q)) ≡ given n → Priced code p a n
 answered code p a {n} = of-found (find code) refl
   where
-    of-found : (f : Found) → find code ≡ f → ofProduct f (λ q. atPrice (q .tick) p (a q)) ≡ given n → Priced code p a n
+    of-found : (f : NamedProduct) → find code ≡ f → ofProduct f (λ q. atPrice (q .tick) p (a q)) ≡ given n → Priced code p a n
     of-found (At q) f e =
         let (w, t, g) = after-price (q .tick) p e in
         record { product = q; found = f; listed = record { within = w; on-tick = t }; answer = g }

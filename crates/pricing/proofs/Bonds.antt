@@ -13,8 +13,8 @@ use Rattle.pricing.specs.Calls.{given, ofProduct, ofBond, atPrice, brack
 use Rattle.pricing.specs.Accuracy.{twiceDistance}
 use Rattle.products.specs.declared.table.Code.{Code}
 use Rattle.products.specs.declared.table.Product.{Product}
-use Rattle.products.specs.declared.table.Found.{Found}
-use Rattle.products.specs.declared.table.Found.the-variants.{At, Missing}
+use Rattle.products.specs.declared.table.NamedProduct.{NamedProduct}
+use Rattle.products.specs.declared.table.NamedProduct.the-variants.{At, Missing}
 use Rattle.products.specs.declared.table.Terms.{Terms}
 use Rattle.products.specs.declared.table.Terms.the-variants.{Bill, Bond, CashRate}
 use Rattle.pricing.proofs.Distance.{ladder-distance}
@@ -50,7 +50,7 @@ module _ (code : Code) (p : ℕ) {b : ℕ} where
       }
   of-terms q f (CashRate cents) t e = not-given e
 
-  of-lookup : (f : Found) → find code ≡ f → ofProduct f (λ q. ofBond (q .terms) (λ c n. atPrice (q .tick) p (given (bracket scale c n (bondDivisor p))))) ≡ given b → Bracketed code p b
+  of-lookup : (f : NamedProduct) → find code ≡ f → ofProduct f (λ q. ofBond (q .terms) (λ c n. atPrice (q .tick) p (given (bracket scale c n (bondDivisor p))))) ≡ given b → Bracketed code p b
   of-lookup (At q) f e = of-terms q f (q .terms) refl e
   of-lookup Missing f e = not-given e
 

@@ -5,18 +5,18 @@ use native.Mathlib.Omega.{arith}
 use Rattle.products.specs.Products.{priceLimit, find}
 use Rattle.pricing.specs.Sizes.{Modest}
 use Rattle.pricing.specs.Calls.{Answer, ofProduct, atPrice}
-use Rattle.pricing.specs.Steps.{judged, judgedProduct, checkIn, checkOf, ofChecked}
+use Rattle.pricing.specs.Checking.{priceChecked, checkedProduct, checkIn, checkOf, ofChecked}
 use Rattle.products.specs.declared.table.Code.{Code}
 use Rattle.products.specs.declared.table.Product as table
 use Rattle.products.specs.declared.table.Terms.{Terms}
-use Rattle.products.specs.declared.table.Found.{Found}
-use Rattle.products.specs.declared.table.Found.the-variants.{At, Missing}
-use Rattle.pricing.specs.declared.contract.Judged.{Judged}
-use Rattle.pricing.specs.declared.contract.Judged.the-variants.{Passed, Failed}
+use Rattle.products.specs.declared.table.NamedProduct.{NamedProduct}
+use Rattle.products.specs.declared.table.NamedProduct.the-variants.{At, Missing}
+use Rattle.pricing.specs.declared.contract.PriceChecked.{PriceChecked}
+use Rattle.pricing.specs.declared.contract.PriceChecked.the-variants.{Passed, Failed}
 use Rattle.pricing.specs.declared.contract.Checked.{Checked}
 use Rattle.pricing.specs.declared.contract.Checked.the-variants.{Product}
-use Rattle.pricing.proofs.Lines.{sound}
-use Rattle.pricing.proofs.Judging.{after, as-judged, passed}
+use Rattle.pricing.proofs.TableLines.{modest-line}
+use Rattle.pricing.proofs.PriceChecks.{after, as-price-checked, passed}
 
 -- terms and a tick of the table, at a price within the limit
 pub record Allowed (t : Terms) (tick p : ℕ) : Type 0 where
@@ -31,30 +31,30 @@ module _ (code : Code) (p : ℕ) {o : Checked} (is : o ≡ checkOf code p) where
   unfolding checkOf
   by-checked a e = rw (← e, is) (by-found (find code))
     where
-      by-judged : (q : table.Product) (j : Judged) → ofChecked (judgedProduct q j) a ≡ after j (a (q .terms) (q .tick))
-      by-judged q Passed = refl
-      by-judged q (Failed k) = refl
+      by-price-checked : (q : table.Product) (j : PriceChecked) → ofChecked (checkedProduct q j) a ≡ after j (a (q .terms) (q .tick))
+      by-price-checked q Passed = refl
+      by-price-checked q (Failed k) = refl
 
-      by-found : (f : Found) → ofChecked (checkIn f p) a ≡ ofProduct f (λ q. atPrice (q .tick) p (a (q .terms) (q .tick)))
-      by-found (At q) = by-judged q (judged (q .tick) p) ∙ as-judged (q .tick) p (a (q .terms) (q .tick))
+      by-found : (f : NamedProduct) → ofChecked (checkIn f p) a ≡ ofProduct f (λ q. atPrice (q .tick) p (a (q .terms) (q .tick)))
+      by-found (At q) = by-price-checked q (priceChecked (q .tick) p) ∙ as-price-checked (q .tick) p (a (q .terms) (q .tick))
       by-found Missing = refl
 
   module _ {t : Terms} {tick : ℕ} (e : o ≡ Product t tick) where
-    passes-product : (q : table.Product) (j : Judged) → judgedProduct q j ≡ Product t tick → (q .terms ≡ t) × (q .tick ≡ tick) × (j ≡ Passed)
+    passes-product : (q : table.Product) (j : PriceChecked) → checkedProduct q j ≡ Product t tick → (q .terms ≡ t) × (q .tick ≡ tick) × (j ≡ Passed)
     passes-product q Passed g = (cc, cc, refl)
     passes-product q (Failed k) g = absurd (let z : _≡_ {A = ℕ} 0 1 = cc in omega arith)
 
     -- the product that was found
-    its-product : (q : table.Product) × (find code ≡ At q) × (q .terms ≡ t) × (q .tick ≡ tick) × (judged tick p ≡ Passed)
+    its-product : (q : table.Product) × (find code ≡ At q) × (q .terms ≡ t) × (q .tick ≡ tick) × (priceChecked tick p ≡ Passed)
     unfolding checkOf
     its-product = by-found (find code) refl (sym is ∙ e)
       where
-        by-found : (f : Found) → find code ≡ f → checkIn f p ≡ Product t tick → (q : table.Product) × (find code ≡ At q) × (q .terms ≡ t) × (q .tick ≡ tick) × (judged tick p ≡ Passed)
-        by-found (At q) d g = let (a, b, j) = passes-product q (judged (q .tick) p) g in (q, d, a, b, rw b at j)
+        by-found : (f : NamedProduct) → find code ≡ f → checkIn f p ≡ Product t tick → (q : table.Product) × (find code ≡ At q) × (q .terms ≡ t) × (q .tick ≡ tick) × (priceChecked tick p ≡ Passed)
+        by-found (At q) d g = let (a, b, j) = passes-product q (priceChecked (q .tick) p) g in (q, d, a, b, rw b at j)
         by-found Missing d g = absurd (let z : _≡_ {A = ℕ} 0 1 = cc in omega arith)
 
     pub allowed : Allowed t tick p
     allowed =
         let (q, d, a, b, j) = its-product in
-        let s = sound code (sym d) refl in
+        let s = modest-line code (sym d) refl in
         record { terms = rw a at (s .terms); positive = rw b at (s .tick); low = rw b at (s .low); within = passed tick p (sym j) refl .0 }

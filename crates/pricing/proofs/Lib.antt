@@ -1,12 +1,12 @@
 pub mod Factors
 pub mod Distance
 pub mod Exact
-pub mod Lines
+pub mod TableLines
 pub mod Bounds
 pub mod Climbing
 pub mod Rise
 pub mod Answers
-pub mod Judging
+pub mod PriceChecks
 pub mod SideBySide
 pub mod Checking
 pub mod Refusals

@@ -17,16 +17,16 @@ use Rattle.pricing.specs.Ladder.{base, factor, annuity, bracket, exactBr
 use Rattle.pricing.specs.Value.{scale, billDividend, billDivisor, bondDivisor, valueBy, exactBy, exactOf}
 use Rattle.pricing.specs.Sizes.{valueCap}
 use Rattle.pricing.specs.Calls.{given, valueOf, tickValueOf, bracketOf}
-use Rattle.pricing.specs.Conditions.{faultNumber, valueFaults, tickValueFaults, bracketFaults, Exactly}
+use Rattle.pricing.specs.Conditions.{checkNumber, valueChecks, tickValueChecks, bracketChecks, Exactly}
 use Rattle.pricing.specs.Accuracy.{twiceDistance, entry, numberIn, distancesIn, accuracyFigures, accuracyOf}
 use Rattle.products.specs.declared.table.Code.{Code}
 use Rattle.products.specs.declared.table.Product.{Product}
-use Rattle.products.specs.declared.table.Found.the-variants.{At}
+use Rattle.products.specs.declared.table.NamedProduct.the-variants.{At}
 use Rattle.products.specs.declared.table.Terms.{Terms}
 use Rattle.products.specs.declared.table.Terms.the-variants.{Bill, Bond, CashRate}
 use Rattle.pricing.proofs.Distance as distance
 use Rattle.pricing.proofs.Exact as exact
-use Rattle.pricing.proofs.Lines.{sound}
+use Rattle.pricing.proofs.TableLines.{modest-line}
 use Rattle.pricing.proofs.Bounds.{factor-cap, value-by-cap}
 use Rattle.pricing.proofs.Rise.{value-by-rises}
 use Rattle.pricing.proofs.Answers.{valued, gives-value, tick-valued, exact-of}
@@ -53,13 +53,13 @@ pub exact-bracket : (c n Y : ℕ) → Same (exactBracket c n (base + Y)) (record
 exact-bracket c n Y = exact.bracket-whole (base + Y) (omega arith) c n
 
 -- So does the bracket that is given for a bond of the table.
-pub bracket-distance : (code : Code) (p : ℕ) {b face c n : ℕ} {q : Product} → find code ≡ At q → q .terms ≡ Bond face c n → bracketOf code p ≡ given b
+pub bracket-distance : (code : Code) (p : ℕ) {b face c n : ℕ} {product : Product} → find code ≡ At product → product .terms ≡ Bond face c n → bracketOf code p ≡ given b
     → Near (2 * (b * bondDivisor p ^ n)) (2 * (scale * wholeBracket c n (bondDivisor p))) (twiceDistance c n * bondDivisor p ^ n)
-bracket-distance code p {c} {n} {q} f t e =
+bracket-distance code p {c} {n} {product} f t e =
     let h = bracketed code p e in
     let g = h .found in
     let u = h .terms in
-    let same : h .product ≡ q = cc in
+    let same : h .product ≡ product = cc in
     let same-c : h .coupon ≡ c = cc in
     let same-n : h .halves ≡ n = cc in
     rw (same-c, same-n) at (bracket-near code p h)
@@ -72,17 +72,17 @@ distances-are = refl
 -- ---- refusals
 
 -- The checks of each call stand in the order of their numbers.
-pub numbers-in-order : (map faultNumber valueFaults ≡ 4 ∷ 6 ∷ 7 ∷ []) × (map faultNumber tickValueFaults ≡ 4 ∷ 6 ∷ 7 ∷ 15 ∷ []) × (map faultNumber bracketFaults ≡ 4 ∷ 6 ∷ 7 ∷ [])
+pub numbers-in-order : (map checkNumber valueChecks ≡ 4 ∷ 6 ∷ 7 ∷ []) × (map checkNumber tickValueChecks ≡ 4 ∷ 6 ∷ 7 ∷ 15 ∷ []) × (map checkNumber bracketChecks ≡ 4 ∷ 6 ∷ 7 ∷ [])
 numbers-in-order = (refl, refl, refl)
 
 -- Each call is turned away with a number exactly where that check's condition holds and no earlier one does, and answers exactly where none holds.
-pub value-exactly : (code : Code) (p : ℕ) → Exactly code p valueFaults (valueOf code p)
+pub value-exactly : (code : Code) (p : ℕ) → Exactly code p valueChecks (valueOf code p)
 value-exactly = refusals.value-exactly
 
-pub tick-value-exactly : (code : Code) (p : ℕ) → Exactly code p tickValueFaults (tickValueOf code p)
+pub tick-value-exactly : (code : Code) (p : ℕ) → Exactly code p tickValueChecks (tickValueOf code p)
 tick-value-exactly = refusals.tick-value-exactly
 
-pub bracket-exactly : (code : Code) (p : ℕ) → Exactly code p bracketFaults (bracketOf code p)
+pub bracket-exactly : (code : Code) (p : ℕ) → Exactly code p bracketChecks (bracketOf code p)
 bracket-exactly = refusals.bracket-exactly
 
 -- ---- a rise
@@ -100,25 +100,25 @@ value-rises code {p} {p'} l e e' =
     rw (← (h .is), ← (h' .is), s) (value-by-rises (h .product .terms) l (h' .listed .within))
 
 -- So a tick value is what the next value has more: the subtraction of naturals in its definition cuts nothing off.
-pub tick-value-adds : (code : Code) (p : ℕ) {d : ℕ} {q : Product} → find code ≡ At q → tickValueOf code p ≡ given d
-    → (m : ℕ) × (valueOf code p ≡ given m) × (valueOf code (p + q .tick) ≡ given (m + d))
-tick-value-adds code p {q = q} f e =
+pub tick-value-adds : (code : Code) (p : ℕ) {d : ℕ} {product : Product} → find code ≡ At product → tickValueOf code p ≡ given d
+    → (m : ℕ) × (valueOf code p ≡ given m) × (valueOf code (p + product .tick) ≡ given (m + d))
+tick-value-adds code p {product = product} f e =
     let (h, d, g) = tick-valued code p f e in
-    let r = value-by-rises (q .terms) {p = p} {p' = p + q .tick} (omega arith) g in (
-      valueBy (q .terms) p,
+    let r = value-by-rises (product .terms) {p = p} {p' = p + product .tick} (omega arith) g in (
+      valueBy (product .terms) p,
       gives-value code p f h,
-      gives-value code (p + q .tick) f (record { within = g; on-tick = add-mod-right p (q .tick) ∙ h .on-tick }) ∙ ap given (omega arith),
+      gives-value code (p + product .tick) f (record { within = g; on-tick = add-mod-right p (product .tick) ∙ h .on-tick }) ∙ ap given (omega arith),
     )
 
 -- A bond's value is the bracket that is given, times face and divided by 10^8, rounded.
-pub value-by-bracket : (code : Code) (p : ℕ) {b face c n : ℕ} {q : Product} → find code ≡ At q → q .terms ≡ Bond face c n → bracketOf code p ≡ given b
+pub value-by-bracket : (code : Code) (p : ℕ) {b face c n : ℕ} {product : Product} → find code ≡ At product → product .terms ≡ Bond face c n → bracketOf code p ≡ given b
     → valueOf code p ≡ given (nearest (b * face) 100_000_000)
 unfolding valueBy scale
-value-by-bracket code p {b} {face} {c} {n} {q} f t e =
+value-by-bracket code p {b} {face} {c} {n} {product} f t e =
     let h = bracketed code p e in
     let g = h .found in
     let u = h .terms in
-    let same : h .product ≡ q = cc in
+    let same : h .product ≡ product = cc in
     let same-c : h .coupon ≡ c = cc in
     let same-n : h .halves ≡ n = cc in
     let is : bracket scale c n (bondDivisor p) ≡ b = rw (← same-c, ← same-n) (h .is) in
@@ -143,7 +143,7 @@ exact-bond face c n p =
     record { proper = (s .proper .1, s .proper .0); same = omega (arith, ap (λ (t : ℕ). t * face) (s .same)) }
 
 -- of the product that a code names
-pub exact-named : (code : Code) (p : ℕ) {q : Product} → find code ≡ At q → exactOf code p ≡ exactBy (q .terms) p
+pub exact-named : (code : Code) (p : ℕ) {product : Product} → find code ≡ At product → exactOf code p ≡ exactBy (product .terms) p
 exact-named code p f = exact-of code p f
 
 -- ---- accuracy
@@ -160,7 +160,7 @@ accurate code previous final e f lots =
     product-accurate code previous final (h .found) (h .listed) (rw (← same) (k .listed)) (h .is) (rw (← same) (k .is)) lots
 
 -- The figures of the six products, whatever the prices.
-pub figures-are : (previous final : ℕ) → map (λ q. accuracyOf (q .code) previous final) products ≡ 1_000 ∷ 1_000 ∷ 0 ∷ 2_208 ∷ 6_100 ∷ 6_550 ∷ []
+pub figures-are : (previous final : ℕ) → map (λ product. accuracyOf (product .code) previous final) products ≡ 1_000 ∷ 1_000 ∷ 0 ∷ 2_208 ∷ 6_100 ∷ 6_550 ∷ []
 unfolding products accuracyOf accuracyFigures numberIn sameCode
 figures-are previous final = refl
 
@@ -175,12 +175,12 @@ factor-small h k = factor-cap h k
 pub value-cap : (code : Code) (p : ℕ) {n : ℕ} → valueOf code p ≡ given n → n ≤ valueCap
 value-cap code p e =
     let h = valued code p e in
-    rw (← (h .is)) (value-by-cap (h .listed .within) (h .product .terms) (sound code (sym (h .found)) refl .terms))
+    rw (← (h .is)) (value-by-cap (h .listed .within) (h .product .terms) (modest-line code (sym (h .found)) refl .terms))
 
 -- ---- the formulas in document 01's numbers
 
 -- A value is given for each code of the table at each price within the limit and on the tick.
-pub value-given : (code : Code) {q : Product} {p : ℕ} → find code ≡ At q → p ≤ priceLimit → p % q .tick ≡ 0 → valueOf code p ≡ given (valueBy (q .terms) p)
+pub value-given : (code : Code) {product : Product} {p : ℕ} → find code ≡ At product → p ≤ priceLimit → p % product .tick ≡ 0 → valueOf code p ≡ given (valueBy (product .terms) p)
 value-given code {p = p} f l t = gives-value code p f (record { within = l; on-tick = t })
 
 -- A bill: 3,650,000,000,000,000 divided by (36,500,000 + 9 times Y), rounded once.

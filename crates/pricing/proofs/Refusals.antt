@@ -17,18 +17,18 @@ use Rattle.products.specs.Products.{priceLimit, find}
 use Rattle.pricing.specs.Ladder.{bracket}
 use Rattle.pricing.specs.Value.{scale, bondDivisor, valueBy}
 use Rattle.pricing.specs.Calls.{Answer, given, refused, check, ofProduct, ofBond, atPrice, valueOf, tickValueOf, bracketOf}
-use Rattle.pricing.specs.Conditions.{Fault, NoProduct, NoBond, AboveLimit, OffTick, NextAboveLimit, faultNumber, Holds, valueFaults, tickValueFaults, bracketFaults, Exactly}
+use Rattle.pricing.specs.Conditions.{ContractCheck, NoProduct, NoBond, AboveLimit, OffTick, NextAboveLimit, checkNumber, HoldsAt, valueChecks, tickValueChecks, bracketChecks, Exactly}
 use Rattle.products.specs.declared.table.Code.{Code}
 use Rattle.products.specs.declared.table.Product.{Product}
-use Rattle.products.specs.declared.table.Found.{Found}
-use Rattle.products.specs.declared.table.Found.the-variants.{At, Missing}
+use Rattle.products.specs.declared.table.NamedProduct.{NamedProduct}
+use Rattle.products.specs.declared.table.NamedProduct.the-variants.{At, Missing}
 use Rattle.products.specs.declared.table.Terms.{Terms}
 use Rattle.products.specs.declared.table.Terms.the-variants.{Bill, Bond, CashRate}
 use Rattle.products.proofs.Finding.{tells-unlisted, tells-product}
 
 -- ---- the tests, by what a lookup found
 
-abbrev missing : Found → Bool
+abbrev missing : NamedProduct → Bool
 missing (At q) = false
 missing Missing = true
 
@@ -37,32 +37,32 @@ isBond (Bill face days) = false
 isBond (Bond face c n) = true
 isBond (CashRate cents) = false
 
-abbrev noBond : Found → Bool
+abbrev noBond : NamedProduct → Bool
 noBond (At q) = not (isBond (q .terms))
 noBond Missing = true
 
-abbrev offTick : Found → ℕ → Bool
+abbrev offTick : NamedProduct → ℕ → Bool
 offTick (At q) p = not (eqb (p % q .tick) 0)
 offTick Missing p = false
 
-abbrev nextAbove : Found → ℕ → Bool
+abbrev nextAbove : NamedProduct → ℕ → Bool
 nextAbove (At q) p = not (leb (p + q .tick) priceLimit)
 nextAbove Missing p = false
 
-abbrev testOf : Found → ℕ → Fault → Bool
+abbrev testOf : NamedProduct → ℕ → ContractCheck → Bool
 testOf f p NoProduct = missing f
 testOf f p NoBond = noBond f
 testOf f p AboveLimit = not (leb p priceLimit)
 testOf f p OffTick = offTick f p
 testOf f p NextAboveLimit = nextAbove f p
 
-abbrev finding : Found → ℕ → Fault → found.Found
+abbrev finding : NamedProduct → ℕ → ContractCheck → found.Found
 finding f p c = cond (testOf f p c) (index.At 0) index.Nothing
 
 -- ---- what each test tells of the code and the price
 
 module _ (code : Code) (p : ℕ) where
-  tells-no-bond : (f : Found) → find code ≡ f → Tells (noBond f) ((q : Product) → find code ≡ At q → (face c n : ℕ) → ¬ (q .terms ≡ Bond face c n))
+  tells-no-bond : (f : NamedProduct) → find code ≡ f → Tells (noBond f) ((q : Product) → find code ≡ At q → (face c n : ℕ) → ¬ (q .terms ≡ Bond face c n))
   tells-no-bond Missing e =
       record { yes = λ b q g. absurd (let z : _≡_ {A = ℕ} 0 1 = cc in omega arith); no = λ b. not-both refl b }
   tells-no-bond (At q) e = by-terms (q .terms) refl
@@ -78,7 +78,7 @@ module _ (code : Code) (p : ℕ) where
       by-terms (CashRate cents) d = record { yes = λ b. other (CashRate cents) d refl; no = λ b. not-both refl b }
       by-terms (Bond face c n) d = record { yes = λ b. not-both b refl; no = λ b h. h q e face c n d }
 
-  finds : (c : Fault) → Finds (Holds code p c) (finding (find code) p c)
+  finds : (c : ContractCheck) → Finds (HoldsAt code p c) (finding (find code) p c)
   finds NoProduct = finds-whole (missing (find code)) (tells-unlisted code missing (λ q. refl) refl)
   finds NoBond = finds-whole (noBond (find code)) (tells-no-bond (find code) refl)
   finds AboveLimit = finds-whole (not (leb p priceLimit)) (tells-above p priceLimit)
@@ -96,8 +96,8 @@ abbrev answerBy : Decision → Answer → Answer
 answerBy (Met k i) a = refused k i
 answerBy Unmet a = a
 
-abbrev decide : Found → ℕ → List Fault → Decision
-decide f p = decision faultNumber (finding f p)
+abbrev decide : NamedProduct → ℕ → List ContractCheck → Decision
+decide f p = decision checkNumber (finding f p)
 
 -- checks 6 and 7, then what follows
 by-price : (b d : Bool) (a : Answer) (rest : Decision) → check 6 b (check 7 d (answerBy rest a))
@@ -111,11 +111,11 @@ by-next true a = refl
 by-next false a = refl
 
 -- the number asked for of the product that was found
-abbrev valueIn : ℕ → Found → ℕ
+abbrev valueIn : ℕ → NamedProduct → ℕ
 valueIn p (At q) = valueBy (q .terms) p
 valueIn p Missing = 0
 
-abbrev tickValueIn : ℕ → Found → ℕ
+abbrev tickValueIn : ℕ → NamedProduct → ℕ
 tickValueIn p (At q) = valueBy (q .terms) (p + q .tick) - valueBy (q .terms) p
 tickValueIn p Missing = 0
 
@@ -124,26 +124,26 @@ bracketBy p (Bill face days) = 0
 bracketBy p (Bond face c n) = bracket scale c n (bondDivisor p)
 bracketBy p (CashRate cents) = 0
 
-abbrev bracketIn : ℕ → Found → ℕ
+abbrev bracketIn : ℕ → NamedProduct → ℕ
 bracketIn p (At q) = bracketBy p (q .terms)
 bracketIn p Missing = 0
 
-by-value : (f : Found) (p : ℕ) → ofProduct f (λ q. atPrice (q .tick) p (given (valueBy (q .terms) p))) ≡ answerBy (decide f p valueFaults) (given (valueIn p f))
+by-value : (f : NamedProduct) (p : ℕ) → ofProduct f (λ q. atPrice (q .tick) p (given (valueBy (q .terms) p))) ≡ answerBy (decide f p valueChecks) (given (valueIn p f))
 by-value Missing p = refl
 by-value (At q) p = by-price (leb p priceLimit) (eqb (p % q .tick) 0) (given (valueBy (q .terms) p)) Unmet
 
-by-tick-value : (f : Found) (p : ℕ)
+by-tick-value : (f : NamedProduct) (p : ℕ)
     → ofProduct f (λ q. atPrice (q .tick) p (check 15 (leb (p + q .tick) priceLimit) (given (valueBy (q .terms) (p + q .tick) - valueBy (q .terms) p))))
-    ≡ answerBy (decide f p tickValueFaults) (given (tickValueIn p f))
+    ≡ answerBy (decide f p tickValueChecks) (given (tickValueIn p f))
 by-tick-value Missing p = refl
 by-tick-value (At q) p =
     let a = given (valueBy (q .terms) (p + q .tick) - valueBy (q .terms) p) in
     ap (atPrice (q .tick) p) (by-next (leb (p + q .tick) priceLimit) a)
     ∙ by-price (leb p priceLimit) (eqb (p % q .tick) 0) a (pick (cond (not (leb (p + q .tick) priceLimit)) (index.At 0) index.Nothing) 15 Unmet)
 
-by-bracket : (f : Found) (p : ℕ)
+by-bracket : (f : NamedProduct) (p : ℕ)
     → ofProduct f (λ q. ofBond (q .terms) (λ c n. atPrice (q .tick) p (given (bracket scale c n (bondDivisor p)))))
-    ≡ answerBy (decide f p bracketFaults) (given (bracketIn p f))
+    ≡ answerBy (decide f p bracketChecks) (given (bracketIn p f))
 by-bracket Missing p = refl
 by-bracket (At q) p = by-terms (q .terms)
   where
@@ -158,7 +158,7 @@ by-bracket (At q) p = by-terms (q .terms)
 -- ---- exactly
 
 -- a call with these checks, whose answer goes by their decision
-module _ (code : Code) (p : ℕ) (faults : List Fault) (answer : Answer) (n : ℕ) (by : answer ≡ answerBy (decide (find code) p faults) (given n)) where
+module _ (code : Code) (p : ℕ) (checks : List ContractCheck) (answer : Answer) (n : ℕ) (by : answer ≡ answerBy (decide (find code) p checks) (given n)) where
   refused-by : (d : Decision) {k i : ℕ} → answerBy d (given n) ≡ refused k i → d ≡ Met k i
   refused-by (Met k i) e = cc
   refused-by Unmet e = absurd (let z : _≡_ {A = ℕ} 0 1 = cc in omega arith)
@@ -167,30 +167,30 @@ module _ (code : Code) (p : ℕ) (faults : List Fault) (answer : Answer) (n : �
   given-by (Met k i) e = absurd (let z : _≡_ {A = ℕ} 0 1 = cc in omega arith)
   given-by Unmet e = refl
 
-  refused-exactly : {k i : ℕ} → (answer ≡ refused k i) ↔ Decides faultNumber (Holds code p) faults k i
+  refused-exactly : {k i : ℕ} → (answer ≡ refused k i) ↔ Decides checkNumber (HoldsAt code p) checks k i
   refused-exactly = (
-    (λ e. met-exactly faultNumber (finding (find code) p) (finds code p) faults .0 (refused-by (decide (find code) p faults) (sym by ∙ e))),
-    (λ d. by ∙ ap (λ x. answerBy x (given n)) (met-exactly faultNumber (finding (find code) p) (finds code p) faults .1 d)),
+    (λ e. met-exactly checkNumber (finding (find code) p) (finds code p) checks .0 (refused-by (decide (find code) p checks) (sym by ∙ e))),
+    (λ d. by ∙ ap (λ x. answerBy x (given n)) (met-exactly checkNumber (finding (find code) p) (finds code p) checks .1 d)),
   )
 
-  given-exactly : ((m : ℕ) × (answer ≡ given m)) ↔ Clear (Holds code p) faults
+  given-exactly : ((m : ℕ) × (answer ≡ given m)) ↔ Clear (HoldsAt code p) checks
   given-exactly = (
-    (λ x. clear-exactly faultNumber (finding (find code) p) (finds code p) faults .0 (given-by (decide (find code) p faults) (sym by ∙ x .1))),
-    (λ h. (n, by ∙ ap (λ x. answerBy x (given n)) (clear-exactly faultNumber (finding (find code) p) (finds code p) faults .1 h))),
+    (λ x. clear-exactly checkNumber (finding (find code) p) (finds code p) checks .0 (given-by (decide (find code) p checks) (sym by ∙ x .1))),
+    (λ h. (n, by ∙ ap (λ x. answerBy x (given n)) (clear-exactly checkNumber (finding (find code) p) (finds code p) checks .1 h))),
   )
 
-exactly : (code : Code) (p : ℕ) (faults : List Fault) (answer : Answer) (n : ℕ) → answer ≡ answerBy (decide (find code) p faults) (given n) → Exactly code p faults answer
-exactly code p faults answer n by = record { turned = λ k i. refused-exactly code p faults answer n by; answers = given-exactly code p faults answer n by }
+exactly : (code : Code) (p : ℕ) (checks : List ContractCheck) (answer : Answer) (n : ℕ) → answer ≡ answerBy (decide (find code) p checks) (given n) → Exactly code p checks answer
+exactly code p checks answer n by = record { turned = λ k i. refused-exactly code p checks answer n by; answers = given-exactly code p checks answer n by }
 
 module _ (code : Code) (p : ℕ) where
-  pub value-exactly : Exactly code p valueFaults (valueOf code p)
+  pub value-exactly : Exactly code p valueChecks (valueOf code p)
   unfolding valueOf
-  value-exactly = exactly code p valueFaults (valueOf code p) (valueIn p (find code)) (by-value (find code) p)
+  value-exactly = exactly code p valueChecks (valueOf code p) (valueIn p (find code)) (by-value (find code) p)
 
-  pub tick-value-exactly : Exactly code p tickValueFaults (tickValueOf code p)
+  pub tick-value-exactly : Exactly code p tickValueChecks (tickValueOf code p)
   unfolding tickValueOf
-  tick-value-exactly = exactly code p tickValueFaults (tickValueOf code p) (tickValueIn p (find code)) (by-tick-value (find code) p)
+  tick-value-exactly = exactly code p tickValueChecks (tickValueOf code p) (tickValueIn p (find code)) (by-tick-value (find code) p)
 
-  pub bracket-exactly : Exactly code p bracketFaults (bracketOf code p)
+  pub bracket-exactly : Exactly code p bracketChecks (bracketOf code p)
   unfolding bracketOf
-  bracket-exactly = exactly code p bracketFaults (bracketOf code p) (bracketIn p (find code)) (by-bracket (find code) p)
+  bracket-exactly = exactly code p bracketChecks (bracketOf code p) (bracketIn p (find code)) (by-bracket (find code) p)

@@ -33,7 +33,7 @@ distanceBy code (CashRate cents) = []
 
 unfoldable pub distancesIn : List Product → List Entry
 distancesIn [] = []
-distancesIn (q ∷ qs) = distanceBy (q .code) (q .terms) ++ distancesIn qs
+distancesIn (product ∷ qs) = distanceBy (product .code) (product .terms) ++ distancesIn qs
 
 -- the accuracy figures, in thousandths of a cent for each lot
 unfoldable pub accuracyFigures : List Entry

@@ -12,8 +12,8 @@ use Rattle.products.specs.declared.table.Code.{Code}
 use Rattle.products.specs.declared.table.Product.{Product}
 use Rattle.products.specs.declared.table.Terms.{Terms}
 use Rattle.products.specs.declared.table.Terms.the-variants.{Bill, Bond, CashRate}
-use Rattle.products.specs.declared.table.Found.{Found}
-use Rattle.products.specs.declared.table.Found.the-variants.{At, Missing}
+use Rattle.products.specs.declared.table.NamedProduct.{NamedProduct}
+use Rattle.products.specs.declared.table.NamedProduct.the-variants.{At, Missing}
 use Rattle.pricing.specs.declared.contract.Priced.{Priced}
 use Rattle.pricing.specs.declared.contract.Priced.the-variants as priced
 
@@ -32,8 +32,8 @@ abbrev pub check : ℕ → Bool → Answer → Answer
 check k passed a = cond passed a (refused k 0)
 
 -- check 4, then the answer of the product
-abbrev pub ofProduct : Found → (Product → Answer) → Answer
-ofProduct (At q) f = f q
+abbrev pub ofProduct : NamedProduct → (Product → Answer) → Answer
+ofProduct (At product) f = f product
 ofProduct Missing f = refused 4 0
 
 -- checks 6 and 7 of a price, then the answer a
@@ -47,22 +47,22 @@ orZero (refused k i) = 0
 
 -- the value of one contract in cents
 unfoldable pub valueOf : Code → ℕ → Answer
-valueOf code p = ofProduct (find code) (λ q. atPrice (q .tick) p (given (valueBy (q .terms) p)))
+valueOf code p = ofProduct (find code) (λ product. atPrice (product .tick) p (given (valueBy (product .terms) p)))
 
 -- how many prices are asked for at once
 abbrev pub lanes : ℕ
 lanes = 8
 
 -- the value at each of several prices, 0 where the call is refused
-unfoldable pub worthsOf : Code → List ℕ → List ℕ
-worthsOf code p = table (λ i. orZero (valueOf code (getD p i 0))) lanes
+unfoldable pub valuesOrZero : Code → List ℕ → List ℕ
+valuesOrZero code p = table (λ i. orZero (valueOf code (getD p i 0))) lanes
 
 -- the value at p + tick minus the value at p, which is never below 0 (proofs/Promises.antt, tick-value-adds)
 unfoldable pub tickValueOf : Code → ℕ → Answer
 tickValueOf code p =
     ofProduct (find code)
-    (λ q. atPrice (q .tick) p
-    (check 15 (leb (p + q .tick) priceLimit) (given (valueBy (q .terms) (p + q .tick) - valueBy (q .terms) p))))
+    (λ product. atPrice (product .tick) p
+    (check 15 (leb (p + product .tick) priceLimit) (given (valueBy (product .terms) (p + product .tick) - valueBy (product .terms) p))))
 
 -- the answer of a bond's half coupon and half years; other terms are refused with 4
 abbrev pub ofBond : Terms → (ℕ → ℕ → Answer) → Answer
@@ -73,4 +73,5 @@ ofBond (CashRate cents) f = refused 4 0
 -- a bond's bracket, in units of the ladder
 unfoldable pub bracketOf : Code → ℕ → Answer
 bracketOf code p =
-    ofProduct (find code) (λ q. ofBond (q .terms) (λ c n. atPrice (q .tick) p (given (bracket scale c n (bondDivisor p)))))
+    ofProduct (find code)
+    (λ product. ofBond (product .terms) (λ c n. atPrice (product .tick) p (given (bracket scale c n (bondDivisor p)))))

@@ -8,48 +8,48 @@ use Rattle.products.specs.Products.{priceLimit, find, Unlisted}
 use Rattle.pricing.specs.Calls.{Answer, given, refused}
 use Rattle.products.specs.declared.table.Code.{Code}
 use Rattle.products.specs.declared.table.Product.{Product}
-use Rattle.products.specs.declared.table.Found.the-variants.{At}
+use Rattle.products.specs.declared.table.NamedProduct.the-variants.{At}
 use Rattle.products.specs.declared.table.Terms.the-variants.{Bond}
 
-pub data Fault : Type 0 where
-  NoProduct : Fault
-  NoBond : Fault
-  AboveLimit : Fault
-  OffTick : Fault
-  NextAboveLimit : Fault
+pub data ContractCheck : Type 0 where
+  NoProduct : ContractCheck
+  NoBond : ContractCheck
+  AboveLimit : ContractCheck
+  OffTick : ContractCheck
+  NextAboveLimit : ContractCheck
 
-abbrev pub faultNumber : Fault → ℕ
-faultNumber NoProduct = 4
-faultNumber NoBond = 4
-faultNumber AboveLimit = 6
-faultNumber OffTick = 7
-faultNumber NextAboveLimit = 15
+abbrev pub checkNumber : ContractCheck → ℕ
+checkNumber NoProduct = 4
+checkNumber NoBond = 4
+checkNumber AboveLimit = 6
+checkNumber OffTick = 7
+checkNumber NextAboveLimit = 15
 
 -- the condition of a check; a single-contract call has the index 0
-abbrev pub Holds : Code → ℕ → Fault → ℕ → Type 0
+abbrev pub HoldsAt : Code → ℕ → ContractCheck → ℕ → Type 0
 -- 4: the code is not in the product table
-Holds code p NoProduct i = (i ≡ 0) × Unlisted code
+HoldsAt code p NoProduct i = (i ≡ 0) × Unlisted code
 -- 4, for a bracket: it is no code of a bond
-Holds code p NoBond i = (i ≡ 0) × ((q : Product) → find code ≡ At q → (face c n : ℕ) → ¬ (q .terms ≡ Bond face c n))
+HoldsAt code p NoBond i = (i ≡ 0) × ((product : Product) → find code ≡ At product → (face c n : ℕ) → ¬ (product .terms ≡ Bond face c n))
 -- 6: the price is above 1,000,000
-Holds code p AboveLimit i = (i ≡ 0) × (priceLimit < p)
+HoldsAt code p AboveLimit i = (i ≡ 0) × (priceLimit < p)
 -- 7: the price is not a multiple of the product's tick
-Holds code p OffTick i = (i ≡ 0) × ((q : Product) × (find code ≡ At q) × ¬ (q .tick ∣ p))
+HoldsAt code p OffTick i = (i ≡ 0) × ((product : Product) × (find code ≡ At product) × ¬ (product .tick ∣ p))
 -- 15: p + tick is above 1,000,000
-Holds code p NextAboveLimit i = (i ≡ 0) × ((q : Product) × (find code ≡ At q) × (priceLimit < p + q .tick))
+HoldsAt code p NextAboveLimit i = (i ≡ 0) × ((product : Product) × (find code ≡ At product) × (priceLimit < p + product .tick))
 
 -- the checks of each call, in their order
-abbrev pub valueFaults : List Fault
-valueFaults = NoProduct ∷ AboveLimit ∷ OffTick ∷ []
+abbrev pub valueChecks : List ContractCheck
+valueChecks = NoProduct ∷ AboveLimit ∷ OffTick ∷ []
 
-abbrev pub tickValueFaults : List Fault
-tickValueFaults = NoProduct ∷ AboveLimit ∷ OffTick ∷ NextAboveLimit ∷ []
+abbrev pub tickValueChecks : List ContractCheck
+tickValueChecks = NoProduct ∷ AboveLimit ∷ OffTick ∷ NextAboveLimit ∷ []
 
-abbrev pub bracketFaults : List Fault
-bracketFaults = NoBond ∷ AboveLimit ∷ OffTick ∷ []
+abbrev pub bracketChecks : List ContractCheck
+bracketChecks = NoBond ∷ AboveLimit ∷ OffTick ∷ []
 
 -- An answer is the refusal k at i exactly where condition k is the first of its checks that holds, at i;
 -- and a number exactly where none holds.
-pub record Exactly (code : Code) (p : ℕ) (faults : List Fault) (answer : Answer) : Type 0 where
-  pub turned : (k i : ℕ) → (answer ≡ refused k i) ↔ Decides faultNumber (Holds code p) faults k i
-  pub answers : ((n : ℕ) × (answer ≡ given n)) ↔ Clear (Holds code p) faults
+pub record Exactly (code : Code) (p : ℕ) (checks : List ContractCheck) (answer : Answer) : Type 0 where
+  pub turned : (k i : ℕ) → (answer ≡ refused k i) ↔ Decides checkNumber (HoldsAt code p) checks k i
+  pub answers : ((n : ℕ) × (answer ≡ given n)) ↔ Clear (HoldsAt code p) checks

@@ -30,7 +30,7 @@ pub record Figure : Type 0 where
 
 infix 4 _gives_
 abbrev _gives_ : Question → Answer → Figure
-q gives a = record { question = q; answer = a }
+question gives answer = record { question = question; answer = answer }
 
 unfoldable pub figures : List Figure
 figures =

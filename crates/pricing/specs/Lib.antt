@@ -7,4 +7,4 @@ pub mod Conditions
 pub mod Accuracy
 pub mod Figures
 pub mod Sizes
-pub mod Steps
+pub mod Checking

@@ -6,8 +6,8 @@ use Rattle.pricing.specs.Prices.{yieldAt, hundredPercent}
 use Rattle.products.specs.Products.{find}
 use Rattle.pricing.specs.Ladder.{base, bracket, wholeBracket}
 use Rattle.products.specs.declared.table.Code.{Code}
-use Rattle.products.specs.declared.table.Found.{Found}
-use Rattle.products.specs.declared.table.Found.the-variants.{At, Missing}
+use Rattle.products.specs.declared.table.NamedProduct.{NamedProduct}
+use Rattle.products.specs.declared.table.NamedProduct.the-variants.{At, Missing}
 use Rattle.products.specs.declared.table.Terms.{Terms}
 use Rattle.products.specs.declared.table.Terms.the-variants.{Bill, Bond, CashRate}
 
@@ -38,8 +38,8 @@ exactBy (Bill face days) p = record { num = billDividend face; den = billDivisor
 exactBy (Bond face c n) p = record { num = wholeBracket c n (bondDivisor p) * face; den = bondDivisor p ^ n }
 exactBy (CashRate cents) p = record { num = cents * p; den = 100 }
 
-abbrev pub exactIn : Found → ℕ → Fraction
-exactIn (At q) p = exactBy (q .terms) p
+abbrev pub exactIn : NamedProduct → ℕ → Fraction
+exactIn (At product) p = exactBy (product .terms) p
 exactIn Missing p = wholly 0
 
 -- the exact value of the product that a code names

@@ -5,14 +5,14 @@ ghost use Rattle.pricing.specs.Ladder.{bracket};
 ghost use Rattle.pricing.specs.Value.{scale, bondDivisor, valueBy};
 ghost use Rattle.pricing.specs.Sizes.{Modest};
 ghost use Rattle.pricing.specs.Calls.{given, said, atPrice, ofBond, valueOf, tickValueOf, bracketOf};
-ghost use Rattle.pricing.specs.Steps.{judged, checkOf};
+ghost use Rattle.pricing.specs.Checking.{priceChecked, checkOf};
 use crate::ladder::bracket_at;
 use crate::values::bill_at;
 use crate::values::bond_at;
 use crate::values::cash_at;
 use crate::values::two_at;
 use products::Code;
-use products::Found;
+use products::NamedProduct;
 use products::PRICE_LIMIT;
 use products::Terms;
 use products::lookup;
@@ -25,21 +25,21 @@ pub enum Priced {
 }
 
 // Whether a price passes checks 6 and 7, or the number of the first that it fails.
-pub enum Judged {
+pub enum PriceChecked {
     Passed,
     Failed(u32),
 }
 
-pub(crate) fn judge(tick: u32, p: u32) -> Judged
-    ensures { λ r. ⌜ r ≡ judged tick p ⌝ }
+pub(crate) fn check_price(tick: u32, p: u32) -> PriceChecked
+    ensures { λ r. ⌜ r ≡ priceChecked tick p ⌝ }
 {
     if PRICE_LIMIT < p {
-        return Judged::Failed(6);
+        return PriceChecked::Failed(6);
     }
     if off_tick(p, tick) {
-        return Judged::Failed(7);
+        return PriceChecked::Failed(7);
     }
-    Judged::Passed
+    PriceChecked::Passed
 }
 
 // The terms and the tick of the product at a price that passes checks 4, 6 and 7, or the number of the first that fails.
@@ -52,17 +52,17 @@ fn check(code: Code, p: u32) -> Checked
     ensures { λ r. ⌜ r ≡ checkOf code p ⌝ }
 {
     match lookup(code) {
-        Found::At(q) => match judge(q.tick, p) {
-            Judged::Passed => {
-                let t = q.terms;
+        NamedProduct::At(product) => match check_price(product.tick, p) {
+            PriceChecked::Passed => {
+                let t = product.terms;
                 Checked::Product {
                     terms: t,
-                    tick: q.tick,
+                    tick: product.tick,
                 }
             }
-            Judged::Failed(k) => Checked::Refused(k),
+            PriceChecked::Failed(k) => Checked::Refused(k),
         },
-        Found::Missing => Checked::Refused(4),
+        NamedProduct::Missing => Checked::Refused(4),
     }
 }
 
@@ -72,21 +72,21 @@ fn value_by(t: Terms, tick: u32, p: u32) -> Priced
     ensures { λ r. ⌜ said r ≡ atPrice tick p (given (valueBy t p)) ⌝ }
 {
     match t {
-        Terms::Bill { face, days } => match judge(tick, p) {
-            Judged::Passed => Priced::Given(bill_at(face, days, p as u64)),
-            Judged::Failed(k) => Priced::Refused(k),
+        Terms::Bill { face, days } => match check_price(tick, p) {
+            PriceChecked::Passed => Priced::Given(bill_at(face, days, p as u64)),
+            PriceChecked::Failed(k) => Priced::Refused(k),
         },
         Terms::Bond {
             face,
             coupon,
             halves,
-        } => match judge(tick, p) {
-            Judged::Passed => Priced::Given(bond_at(face, coupon, halves, p as u64)),
-            Judged::Failed(k) => Priced::Refused(k),
+        } => match check_price(tick, p) {
+            PriceChecked::Passed => Priced::Given(bond_at(face, coupon, halves, p as u64)),
+            PriceChecked::Failed(k) => Priced::Refused(k),
         },
-        Terms::CashRate { cents } => match judge(tick, p) {
-            Judged::Passed => Priced::Given(cash_at(cents, p as u64)),
-            Judged::Failed(k) => Priced::Refused(k),
+        Terms::CashRate { cents } => match check_price(tick, p) {
+            PriceChecked::Passed => Priced::Given(cash_at(cents, p as u64)),
+            PriceChecked::Failed(k) => Priced::Refused(k),
         },
     }
 }
@@ -96,11 +96,11 @@ pub fn value(code: Code, p: u32) -> Priced
     ensures { λ r. ⌜ said r ≡ valueOf code p ⌝ }
 {
     match lookup(code) {
-        Found::At(q) => {
-            let t = q.terms;
-            value_by(t, q.tick, p)
+        NamedProduct::At(product) => {
+            let t = product.terms;
+            value_by(t, product.tick, p)
         }
-        Found::Missing => Priced::Refused(4),
+        NamedProduct::Missing => Priced::Refused(4),
     }
 }
 
@@ -131,9 +131,9 @@ fn bracket_by(t: Terms, tick: u32, p: u32) -> Priced
             face: _,
             coupon,
             halves,
-        } => match judge(tick, p) {
-            Judged::Passed => Priced::Given(bracket_at(coupon, halves, p as u64)),
-            Judged::Failed(k) => Priced::Refused(k),
+        } => match check_price(tick, p) {
+            PriceChecked::Passed => Priced::Given(bracket_at(coupon, halves, p as u64)),
+            PriceChecked::Failed(k) => Priced::Refused(k),
         },
         Terms::Bill { face: _, days: _ } => Priced::Refused(4),
         Terms::CashRate { cents: _ } => Priced::Refused(4),
@@ -145,10 +145,10 @@ pub fn bracket(code: Code, p: u32) -> Priced
     ensures { λ r. ⌜ said r ≡ bracketOf code p ⌝ }
 {
     match lookup(code) {
-        Found::At(q) => {
-            let t = q.terms;
-            bracket_by(t, q.tick, p)
+        NamedProduct::At(product) => {
+            let t = product.terms;
+            bracket_by(t, product.tick, p)
         }
-        Found::Missing => Priced::Refused(4),
+        NamedProduct::Missing => Priced::Refused(4),
     }
 }

@@ -95,12 +95,13 @@ pub struct Two {
 }
 
 // The brackets of a bond at two prices, whose ladders are climbed side by side.
-pub(crate) fn brackets_at(coupon: u64, halves: u64, p: u64, q: u64) -> Two
-    requires { ⌜ (coupon ≤ 3) × (1 ≤ halves) × (halves ≤ 40) × (p ≤ priceLimit) × (q ≤ priceLimit) ⌝ }
-    ensures { λ r. ⌜ (r .one ≡ bracket scale coupon halves (bondDivisor p)) × (r .other ≡ bracket scale coupon halves (bondDivisor q)) ⌝ }
+pub(crate) fn brackets_at(coupon: u64, halves: u64, p: u64, other: u64) -> Two
+    requires { ⌜ (coupon ≤ 3) × (1 ≤ halves) × (halves ≤ 40) × (p ≤ priceLimit) × (other ≤ priceLimit) ⌝ }
+    ensures { λ r. ⌜ (r .one ≡ bracket scale coupon halves (bondDivisor p))
+        × (r .other ≡ bracket scale coupon halves (bondDivisor other)) ⌝ }
 {
     let mut l = start(p);
-    let mut m = start(q);
+    let mut m = start(other);
     let mut k = 1;
     while k < halves {
         l = climb(l);

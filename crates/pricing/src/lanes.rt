@@ -1,7 +1,7 @@
 // Ladders climbed side by side: the values of a bond at several prices.
 ghost use Prim.Native.Nat.{_≤_};
 ghost use lib.ListN.{getD};
-ghost use Rattle.numbers.specs.Folds.{Holds};
+ghost use Rattle.numbers.specs.Folds.{Filled};
 ghost use Rattle.pricing.specs.Value.{valueBy};
 ghost use Rattle.pricing.specs.Sizes.{Modest};
 ghost use Rattle.pricing.specs.Calls.{lanes};
@@ -25,7 +25,7 @@ const NONE: Rung = Rung {
 // The first rung at each price.
 fn starts(p: [u32; LANES]) -> [Rung; LANES]
     requires { ⌜ Within p ⌝ }
-    ensures { λ r. ⌜ Holds noRung (λ i. rungAt (getD p i 0) 1) lanes r ⌝ }
+    ensures { λ r. ⌜ Filled noRung (λ i. rungAt (getD p i 0) 1) lanes r ⌝ }
 {
     let mut l = [NONE; LANES];
     let mut i = 0;
@@ -39,7 +39,7 @@ fn starts(p: [u32; LANES]) -> [Rung; LANES]
 // The next rung of each ladder.
 fn climbs(l: [Rung; LANES]) -> [Rung; LANES]
     requires { ⌜ AllLow l ⌝ }
-    ensures { λ r. ⌜ Holds noRung (λ i. nextOf (getD l i noRung)) lanes r ⌝ }
+    ensures { λ r. ⌜ Filled noRung (λ i. nextOf (getD l i noRung)) lanes r ⌝ }
 {
     let mut next = [NONE; LANES];
     let mut i = 0;
@@ -53,7 +53,7 @@ fn climbs(l: [Rung; LANES]) -> [Rung; LANES]
 // The last rung at each price.
 fn ladders(halves: u64, p: [u32; LANES]) -> [Rung; LANES]
     requires { ⌜ (1 ≤ halves) × (halves ≤ 40) × Within p ⌝ }
-    ensures { λ r. ⌜ Holds noRung (λ i. rungAt (getD p i 0) halves) lanes r ⌝ }
+    ensures { λ r. ⌜ Filled noRung (λ i. rungAt (getD p i 0) halves) lanes r ⌝ }
 {
     let mut l = starts(p);
     let mut k = 1;
@@ -68,7 +68,7 @@ fn ladders(halves: u64, p: [u32; LANES]) -> [Rung; LANES]
 // The values of a bond at several prices.
 pub(crate) fn bonds_at(face: u64, coupon: u64, halves: u64, p: [u32; LANES]) -> [u64; LANES]
     requires { ⌜ Modest (Terms.Bond face coupon halves) × Within p ⌝ }
-    ensures { λ r. ⌜ Holds 0 (λ i. valueBy (Terms.Bond face coupon halves) (getD p i 0)) lanes r ⌝ }
+    ensures { λ r. ⌜ Filled 0 (λ i. valueBy (Terms.Bond face coupon halves) (getD p i 0)) lanes r ⌝ }
 {
     let l = ladders(halves, p);
     let mut v = [0; LANES];

@@ -11,5 +11,5 @@ pub use contract::bracket;
 pub use contract::tick_value;
 pub use contract::value;
 pub use lanes::LANES;
-pub use valuing::worth;
-pub use valuing::worths;
+pub use valuing::value_or_zero;
+pub use valuing::values_or_zero;

@@ -55,11 +55,11 @@ pub(crate) fn value_at(t: Terms, p: u64) -> u64
     }
 }
 
-fn two_bonds_at(face: u64, coupon: u64, halves: u64, p: u64, q: u64) -> Two
-    requires { ⌜ Modest (Terms.Bond face coupon halves) × (p ≤ priceLimit) × (q ≤ priceLimit) ⌝ }
-    ensures { λ r. ⌜ (r .one ≡ valueBy (Terms.Bond face coupon halves) p) × (r .other ≡ valueBy (Terms.Bond face coupon halves) q) ⌝ }
+fn two_bonds_at(face: u64, coupon: u64, halves: u64, p: u64, other: u64) -> Two
+    requires { ⌜ Modest (Terms.Bond face coupon halves) × (p ≤ priceLimit) × (other ≤ priceLimit) ⌝ }
+    ensures { λ r. ⌜ (r .one ≡ valueBy (Terms.Bond face coupon halves) p) × (r .other ≡ valueBy (Terms.Bond face coupon halves) other) ⌝ }
 {
-    let b = brackets_at(coupon, halves, p, q);
+    let b = brackets_at(coupon, halves, p, other);
     Two {
         one: descaled(b.one * face),
         other: descaled(b.other * face),
@@ -67,23 +67,23 @@ fn two_bonds_at(face: u64, coupon: u64, halves: u64, p: u64, q: u64) -> Two
 }
 
 // The values at two prices.
-pub(crate) fn two_at(t: Terms, p: u64, q: u64) -> Two
-    requires { ⌜ Modest t × (p ≤ priceLimit) × (q ≤ priceLimit) ⌝ }
-    ensures { λ r. ⌜ (r .one ≡ valueBy t p) × (r .other ≡ valueBy t q) ⌝ }
+pub(crate) fn two_at(t: Terms, p: u64, other: u64) -> Two
+    requires { ⌜ Modest t × (p ≤ priceLimit) × (other ≤ priceLimit) ⌝ }
+    ensures { λ r. ⌜ (r .one ≡ valueBy t p) × (r .other ≡ valueBy t other) ⌝ }
 {
     match t {
         Terms::Bill { face, days } => Two {
             one: bill_at(face, days, p),
-            other: bill_at(face, days, q),
+            other: bill_at(face, days, other),
         },
         Terms::Bond {
             face,
             coupon,
             halves,
-        } => two_bonds_at(face, coupon, halves, p, q),
+        } => two_bonds_at(face, coupon, halves, p, other),
         Terms::CashRate { cents } => Two {
             one: cash_at(cents, p),
-            other: cash_at(cents, q),
+            other: cash_at(cents, other),
         },
     }
 }

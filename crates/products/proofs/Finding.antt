@@ -13,11 +13,11 @@ use Rattle.numbers.proofs.Truth.{Tells, and-left, and-right, not-both, tells-as
 use Rattle.products.specs.Products.{products, noProduct, sameCode, findIn, find, Unlisted}
 use Rattle.products.specs.declared.table.Code.{Code}
 use Rattle.products.specs.declared.table.Product.{Product}
-use Rattle.products.specs.declared.table.Found.{Found}
-use Rattle.products.specs.declared.table.Found.the-variants.{At, Missing}
+use Rattle.products.specs.declared.table.NamedProduct.{NamedProduct}
+use Rattle.products.specs.declared.table.NamedProduct.the-variants.{At, Missing}
 
 -- a search from line i on finds that line where it has the code, and else what a search from the next line on finds
-module _ (qs : List Product) (i : ℕ) (a : Code) {q : Product} {b : Bool} {f : Found}
+module _ (qs : List Product) (i : ℕ) (a : Code) {q : Product} {b : Bool} {f : NamedProduct}
     (h : i < length qs) (is : q ≡ getD qs i noProduct) (test : b ≡ sameCode a (q .code)) (from : findIn (drop i qs) a ≡ f) where
   pub find-here : b ≡ true → At q ≡ f
   unfolding findIn
@@ -33,7 +33,7 @@ Every P [] = Unit {0}
 Every P (q ∷ qs) = P q × Every P qs
 
 module _ (P : Product → Type 0) {q : Product} where
-  first : (b : Bool) {r : Product} {f : Found} → P r → (f ≡ At q → P q) → cond b (At r) f ≡ At q → P q
+  first : (b : Bool) {r : Product} {f : NamedProduct} → P r → (f ≡ At q → P q) → cond b (At r) f ≡ At q → P q
   first true {r} h g e = let d : r ≡ q = cc in subst P d h
   first false h g e = g e
 
@@ -55,7 +55,7 @@ unfolding sameCode
 same-code-self a = rw (eq-eqb (a .0) (a .0) refl, eq-eqb (a .1) (a .1) refl)
 
 module _ {q : Product} where
-  found-by : (b : Bool) (a : Code) (r : Product) {f : Found} → (b ≡ true → a ≡ r .code) → (f ≡ At q → q .code ≡ a) → cond b (At r) f ≡ At q → q .code ≡ a
+  found-by : (b : Bool) (a : Code) (r : Product) {f : NamedProduct} → (b ≡ true → a ≡ r .code) → (f ≡ At q → q .code ≡ a) → cond b (At r) f ≡ At q → q .code ≡ a
   found-by true a r h g e = let d : r ≡ q = cc in rw (← d) (sym (h refl))
   found-by false a r h g e = g e
 
@@ -73,7 +73,7 @@ pub found-member : (a : Code) {q : Product} → find a ≡ At q → List·Memᴰ
 unfolding find findIn
 found-member a e = in-table products a e
   where
-    here : (b : Bool) {q r : Product} {qs : List Product} {f : Found} → (f ≡ At q → List·Memᴰ q qs) → cond b (At r) f ≡ At q → List·Memᴰ q (r ∷ qs)
+    here : (b : Bool) {q r : Product} {qs : List Product} {f : NamedProduct} → (f ≡ At q → List·Memᴰ q qs) → cond b (At r) f ≡ At q → List·Memᴰ q (r ∷ qs)
     here true {q} {r} g e = let d : q ≡ r = cc in List·Memᴰ·head d
     here false g e = List·Memᴰ·tail (g e)
 
@@ -86,7 +86,7 @@ pub missing-none : (a : Code) → find a ≡ Missing → (q : Product) → List�
 unfolding find findIn
 missing-none a e = in-table products e
   where
-    later : (b : Bool) (r : Product) (f : Found) → cond b (At r) f ≡ Missing → (b ≡ false) × (f ≡ Missing)
+    later : (b : Bool) (r : Product) (f : NamedProduct) → cond b (At r) f ≡ Missing → (b ≡ false) × (f ≡ Missing)
     later true r f e = absurd (let z : _≡_ {A = ℕ} 0 1 = cc in omega arith)
     later false r f e = (refl, e)
 
@@ -100,12 +100,12 @@ missing-none a e = in-table products e
 
 -- ---- what a test of what was found tells of the code
 
-module _ (code : Code) (test : Found → Bool) where
+module _ (code : Code) (test : NamedProduct → Bool) where
   -- one that holds only where no line was found
   pub tells-unlisted : ((q : Product) → test (At q) ≡ false) → test Missing ≡ true → Tells (test (find code)) (Unlisted code)
   tells-unlisted here none = by-found (find code) refl
     where
-      by-found : (f : Found) → find code ≡ f → Tells (test f) (Unlisted code)
+      by-found : (f : NamedProduct) → find code ≡ f → Tells (test f) (Unlisted code)
       by-found (At q) e = record { yes = λ b. not-both b (here q); no = λ b h. h q (found-member code e) (found-code code e) }
       by-found Missing e = record { yes = λ b. missing-none code e; no = λ b. not-both none b }
 
@@ -113,6 +113,6 @@ module _ (code : Code) (test : Found → Bool) where
   pub tells-product : {A : Product → Type 0} → ((q : Product) → Tells (test (At q)) (A q)) → test Missing ≡ false → Tells (test (find code)) ((q : Product) × (find code ≡ At q) × A q)
   tells-product {A} here none = by-found (find code) refl
     where
-      by-found : (f : Found) → find code ≡ f → Tells (test f) ((q : Product) × (find code ≡ At q) × A q)
+      by-found : (f : NamedProduct) → find code ≡ f → Tells (test f) ((q : Product) × (find code ≡ At q) × A q)
       by-found (At q) e = tells-as (λ a. (q, e, a)) (λ x. let (r, g, a) = x in let same : r ≡ q = cc in subst A same a) (here q)
       by-found Missing e = record { yes = λ b. not-both b none; no = λ b x. let g = x .1 in absurd (let z : _≡_ {A = ℕ} 0 1 = cc in omega arith) }

@@ -9,8 +9,8 @@ use Rattle.products.specs.Products.{IR, BB, IB, YT, XT, XX, products, sa
 use Rattle.products.specs.declared.table.Code.{Code}
 use Rattle.products.specs.declared.table.Currency.the-variants.{Aud, Nzd}
 use Rattle.products.specs.declared.table.Product.{Product}
-use Rattle.products.specs.declared.table.Found.{Found}
-use Rattle.products.specs.declared.table.Found.the-variants.{At, Missing}
+use Rattle.products.specs.declared.table.NamedProduct.{NamedProduct}
+use Rattle.products.specs.declared.table.NamedProduct.the-variants.{At, Missing}
 use Rattle.products.proofs.Finding.{Every, of-found, found-member, found-code, missing-none}
 use Rattle.products.proofs.Months as months
 
@@ -27,7 +27,7 @@ lines-found = refl
 pub none-found : (code : Code) → (find code ≡ Missing) ↔ Unlisted code
 none-found code = (missing-none code, λ h. by-found (find code) refl h)
   where
-    by-found : (f : Found) → find code ≡ f → Unlisted code → f ≡ Missing
+    by-found : (f : NamedProduct) → find code ≡ f → Unlisted code → f ≡ Missing
     by-found (At q) e h = absurd (h q (found-member code e) (found-code code e))
     by-found Missing e h = refl
 

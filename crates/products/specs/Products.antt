@@ -10,8 +10,8 @@ use Rattle.products.specs.declared.table.Currency.the-variants.{Aud, Nzd
 use Rattle.products.specs.declared.table.Product.{Product}
 use Rattle.products.specs.declared.table.Terms.{Terms}
 use Rattle.products.specs.declared.table.Terms.the-variants.{Bill, Bond, CashRate}
-use Rattle.products.specs.declared.table.Found.{Found}
-use Rattle.products.specs.declared.table.Found.the-variants.{At, Missing}
+use Rattle.products.specs.declared.table.NamedProduct.{NamedProduct}
+use Rattle.products.specs.declared.table.NamedProduct.the-variants.{At, Missing}
 
 -- the highest price, in units of 0.0001
 unfoldable pub priceLimit : ℕ
@@ -68,20 +68,20 @@ unfoldable pub sameCode : Code → Code → Bool
 sameCode a b = eqb (a .0) (b .0) && eqb (a .1) (b .1)
 
 -- the first line of a table that a code names
-unfoldable pub findIn : List Product → Code → Found
+unfoldable pub findIn : List Product → Code → NamedProduct
 findIn [] a = Missing
-findIn (q ∷ qs) a = cond (sameCode a (q .code)) (At q) (findIn qs a)
+findIn (product ∷ qs) a = cond (sameCode a (product .code)) (At product) (findIn qs a)
 
-unfoldable pub find : Code → Found
+unfoldable pub find : Code → NamedProduct
 find a = findIn products a
 
 -- no line of the product table has the code
 abbrev pub Unlisted : Code → Type 0
-Unlisted code = (q : Product) → List·Memᴰ q products → ¬ (q .code ≡ code)
+Unlisted code = (product : Product) → List·Memᴰ product products → ¬ (product .code ≡ code)
 
 -- the product's currency, Australian where there is no product
-abbrev pub currencyIn : Found → Currency
-currencyIn (At q) = q .currency
+abbrev pub currencyIn : NamedProduct → Currency
+currencyIn (At product) = product .currency
 currencyIn Missing = Aud
 
 unfoldable pub currencyOf : Code → Currency
@@ -93,8 +93,8 @@ bondTerms (Bill face days) = false
 bondTerms (Bond face c n) = true
 bondTerms (CashRate cents) = false
 
-abbrev pub bondIn : Found → Bool
-bondIn (At q) = bondTerms (q .terms)
+abbrev pub bondIn : NamedProduct → Bool
+bondIn (At product) = bondTerms (product .terms)
 bondIn Missing = false
 
 unfoldable pub isBond : Code → Bool
@@ -102,12 +102,12 @@ isBond a = bondIn (find a)
 
 -- a month is one of the product's
 unfoldable pub hasMonth : Product → ℕ → Bool
-hasMonth q m = ltb m 16 && eqb (q .months / 2 ^ m % 2) 1
+hasMonth product m = ltb m 16 && eqb (product .months / 2 ^ m % 2) 1
 
 -- the product's months below n, and all of them: the months of a line have less than sixteen bits
 unfoldable pub monthsBelow : ℕ → Product → List ℕ
-monthsBelow zero q = []
-monthsBelow (suc n) q = monthsBelow n q ++ cond (hasMonth q n) (n ∷ []) []
+monthsBelow zero product = []
+monthsBelow (suc n) product = monthsBelow n product ++ cond (hasMonth product n) (n ∷ []) []
 
 abbrev pub monthsOf : Product → List ℕ
-monthsOf q = monthsBelow 16 q
+monthsOf product = monthsBelow 16 product

@@ -3,7 +3,7 @@ mod table;
 
 pub use table::Code;
 pub use table::Currency;
-pub use table::Found;
+pub use table::NamedProduct;
 pub use table::PRICE_LIMIT;
 pub use table::PRODUCTS;
 pub use table::Product;

@@ -104,7 +104,7 @@ pub const PRODUCTS: [Product; 6] = [
     },
 ];
 
-pub enum Found {
+pub enum NamedProduct {
     At(Product),
     Missing,
 }
@@ -125,18 +125,18 @@ pub fn same_code(a: Code, b: Code) -> bool
 }
 
 // The product that a code names.
-pub fn lookup(code: Code) -> Found
+pub fn lookup(code: Code) -> NamedProduct
     ensures { λ r. ⌜ r ≡ find code ⌝ }
 {
     let mut i = 0;
     while i < 6 {
-        let q = line(i);
-        if same_code(code, q.code) {
-            return Found::At(q);
+        let product = line(i);
+        if same_code(code, product.code) {
+            return NamedProduct::At(product);
         }
         i += 1;
     }
-    Found::Missing
+    NamedProduct::Missing
 }
 
 // A product's currency, Australian where there is no product.
@@ -144,11 +144,11 @@ pub fn currency_of(code: Code) -> Currency
     ensures { λ r. ⌜ r ≡ currencyOf code ⌝ }
 {
     match lookup(code) {
-        Found::At(q) => {
-            let c = q.currency;
+        NamedProduct::At(product) => {
+            let c = product.currency;
             c
         }
-        Found::Missing => Currency::Aud,
+        NamedProduct::Missing => Currency::Aud,
     }
 }
 
@@ -172,11 +172,11 @@ pub fn is_bond(code: Code) -> bool
     ensures { λ r. ⌜ r ≡ isBond code ⌝ }
 {
     match lookup(code) {
-        Found::At(q) => {
-            let t = q.terms;
+        NamedProduct::At(product) => {
+            let t = product.terms;
             bond_terms(t)
         }
-        Found::Missing => false,
+        NamedProduct::Missing => false,
     }
 }
 
@@ -198,11 +198,11 @@ pub fn off_tick(p: u32, tick: u32) -> bool
 }
 
 // Whether a month is one of the product's.
-pub fn has_month(q: Product, month: u8) -> bool
-    ensures { λ r. ⌜ r ≡ hasMonth q month ⌝ }
+pub fn has_month(product: Product, month: u8) -> bool
+    ensures { λ r. ⌜ r ≡ hasMonth product month ⌝ }
 {
     if month < 16 {
-        (q.months >> month) % 2 == 1
+        (product.months >> month) % 2 == 1
     } else {
         false
     }

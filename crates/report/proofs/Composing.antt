@@ -7,7 +7,7 @@ use Rattle.text.specs.Ascii.{ascii}
 use Rattle.text.specs.Decimal.{decimal, signedDecimal}
 use Rattle.dayfile.specs.declared.records.Mark.{Mark}
 use Rattle.report.specs.Lines.{space, newline, ended, positionLine, refusalLine}
-use Rattle.report.specs.Steps.{contractFields, lineEnd}
+use Rattle.report.specs.Writers.{contractFields, lineEnd}
 
 pub position-line : (account : ℕ) (m : Mark) (amount : ℤ)
     → ended (decimal account) space ++ contractFields m ++ (ended (signedDecimal amount) space ++ lineEnd m) ≡ positionLine account m amount

@@ -27,14 +27,14 @@ use Rattle.checks.specs.Positions.{positionChecks}
 use Rattle.checks.specs.Judging.{recordChecks, fileChecks}
 use Rattle.settlement.specs.Conditions.{roomCheck, settlementChecks}
 use Rattle.settlement.specs.Settling.{refused, accept, refuse, planOf, answerBy, answerOf, amountOf, changeIn, totalOf, shareOf, totals}
-use Rattle.dayfile.specs.Steps.{Small, LaidOut}
-use Rattle.settlement.specs.Steps.{amountCap}
+use Rattle.dayfile.specs.WithinLimits.{ListsWithinLimits, LaidOut}
+use Rattle.settlement.specs.SettlingSteps.{amountCap}
 use Rattle.dayfile.specs.declared.records.Correction.{Correction}
 use Rattle.dayfile.specs.declared.file.DayFile.{DayFile}
 use Rattle.dayfile.specs.declared.file.Opened.{Opened}
 use Rattle.dayfile.specs.declared.file.Opened.the-variants.{File, Refused}
 use Rattle.checks.proofs.Passed.{passed-parts, mark-in, lots-in}
-use Rattle.dayfile.proofs.Parts.{small}
+use Rattle.dayfile.proofs.Parts.{lists-within}
 use Rattle.settlement.proofs.Changes.{change-bound}
 use Rattle.settlement.proofs.Sizes.{product-small, sum-small, keep-small}
 use Rattle.settlement.proofs.Totals.{total-is}
@@ -76,26 +76,26 @@ module _ (s : List ℕ) (b : Bytes s) (d : DayFile) (laid : LaidOut s d) (passed
       (omega (
         arith,
         sum-small (shareOf (l .marks) (l .positions) (changeIn l) c) (length (l .positions)) (λ i h. le-trans (keep-small c _ (amountOf (l .positions) (changeIn l) i)) (amount-in i h)),
-        small s d (laid .limited) .positions,
+        lists-within s d (laid .counts-within) .positions,
       ))
 
   accepted-length : length (positionsText (accept l) ++ answerText (totals l)) ≤ sheetSize
   unfolding l positionsText answerText
   accepted-length =
       let total : Currency → ℤ = totalOf (l .marks) (l .positions) (changeIn l) in
-      let k : resentOf (l .corrections) < 10 ^ 20 = omega (arith, resent-small (l .corrections), small s d (laid .limited) .corrections) in
+      let k : resentOf (l .corrections) < 10 ^ 20 = omega (arith, resent-small (l .corrections), lists-within s d (laid .counts-within) .corrections) in
       rw length-append
       (omega (
         arith,
         texts-length (lineAt (l .marks) (l .positions) (amountOf (l .positions) (changeIn l))) (length (l .positions)) lineSize line-in,
-        small s d (laid .limited) .positions,
+        lists-within s d (laid .counts-within) .positions,
         totals-length (total Aud) (total Nzd) (resentOf (l .corrections)) (total-in Aud) (total-in Nzd) k,
       ))
 
 -- ---- a file that is refused
 
 -- no check looks at more than the positions of a file
-sizes : (f : List ℕ) (places : ℕ) → Small (listsOfFile f) → Sized (settlementChecks fileLimits f places) (fileLimits .positions)
+sizes : (f : List ℕ) (places : ℕ) → ListsWithinLimits (listsOfFile f) → Sized (settlementChecks fileLimits f places) (fileLimits .positions)
 sizes f places h =
     let l = listsOfFile f in
     let m = markChecks (l .marks) in
@@ -128,7 +128,7 @@ module _ (s : List ℕ) (places : ℕ) where
     by-decision : (d : Decision) → decisionOf (fileChecks fileLimits s) ≡ d → planOf fileLimits s places ≡ planFrom s places d → length (sheetOf s places) ≤ sheetSize
     by-decision (Met k i) e p =
         let t = demand-2 fileLimits s places .0 (refused-answer p) in
-        let h = index-within (settlementChecks fileLimits s places) (fileLimits .positions) (sizes s places (small s (countsOf s) (laid .limited))) t in
+        let h = index-within (settlementChecks fileLimits s places) (fileLimits .positions) (sizes s places (lists-within s (countsOf s) (laid .counts-within))) t in
         refused-fits p (omega arith)
     by-decision Unmet e p = by-room (passed-parts fileLimits s e .1) (ltb places (length (listsOfFile s .positions))) p
 

@@ -3,5 +3,5 @@ pub mod Plans
 pub mod Lengths
 pub mod MarkWords
 pub mod Fits
-pub mod Whole
+pub mod WholeSheet
 pub mod Example

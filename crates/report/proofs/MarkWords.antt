@@ -16,7 +16,7 @@ use Rattle.products.specs.Products.{currencyOf}
 use Rattle.dayfile.specs.Records.{marksIn, markAt}
 use Rattle.dayfile.specs.declared.records.Mark.{Mark}
 use Rattle.report.specs.Lines.{space, ended, positionLine}
-use Rattle.report.specs.Steps.{contractFields, lineEnd, padded, packed, wordsAt, lengthIn, fieldsIn, endIn, Words, moneyIn, restIn, lineWith}
+use Rattle.report.specs.Writers.{contractFields, lineEnd, padded, packed, wordsAt, lengthIn, fieldsIn, endIn, Words, moneyIn, restIn, lineWith}
 use Rattle.report.proofs.Composing.{position-line}
 use Rattle.report.proofs.Lengths.{mark-read, letters-length}
 
@@ -33,7 +33,7 @@ module _ (f e : List ℕ) (small : length f ≤ 11) (four : length e ≡ 4) wher
   unfolding packed
   packed-length = rw (length-append (padded f ++ e) (length f ∷ [])) (omega (arith, before-last))
 
-  -- written one behind the other into zeros
+  -- written one after the other into zeros
   pub packed-made : {k b : ℕ} {now mid : List ℕ} (n : ℕ) → n ≡ length now - 11 → Writes f k (replicate 16 0) now → Writes e b (midOf 11 n now) mid
       → set (putMid 11 n now mid) 15 k ≡ packed f e
   unfolding packed
@@ -114,7 +114,7 @@ module _ (t : List ℕ) (bytes : Bytes t) where
         rw (fields-are _ _ l (end-length m) words _ (16 * j) here, end-is _ _ l (end-length m) words _ (16 * j) here)
         (sym (append-assoc (ended (decimal account) space) (contractFields m) _) ∙ position-line account m amount)
 
--- ---- what stands behind the account: twelve bytes, of which the fields stay, and the amount over the others
+-- ---- what stands after the account: twelve bytes, of which the fields stay, and the amount over the others
 
 module _ (words : List ℕ) (at : ℕ) (is : Words words at) (amount : ℤ) where
   fields-in : length (fieldsIn words at) ≡ lengthIn words at

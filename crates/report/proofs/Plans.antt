@@ -30,7 +30,7 @@ use Rattle.numbers.proofs.Tables.{entry}
 use Rattle.numbers.specs.Integers.{entryOf}
 use Rattle.report.specs.Lines.{positionLine, lineAt}
 use Rattle.report.specs.Sheet.{positionsText}
-use Rattle.report.specs.Steps.{Paid, Named, countOf, linesIn}
+use Rattle.report.specs.Writers.{Paid, Named, countOf, linesIn}
 
 -- the lines that the writer puts down are those of the plan, their amounts stand in the slice, and each names a mark
 pub record Lined (l : Lists) (plan : Plan) (n : ℕ) (a : List ℤ) : Type 0 where

@@ -1,3 +1,3 @@
 pub mod Lines
 pub mod Sheet
-pub mod Steps
+pub mod Writers

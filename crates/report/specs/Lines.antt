@@ -17,7 +17,7 @@ space = 32
 abbrev pub newline : ℕ
 newline = 10
 
--- a field and the byte behind it
+-- a field and the byte after it
 abbrev pub ended : List ℕ → ℕ → List ℕ
 ended s b = s ++ (b ∷ [])
 

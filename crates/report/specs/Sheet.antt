@@ -22,7 +22,7 @@ answerText (refused k i) = refusalLine k i
 -- the lines of the positions that are settled
 unfoldable pub positionsText : Plan → List ℕ
 positionsText (refuse k i) = []
-positionsText (accept l) = texts (lineAt (l .marks) (l .positions) (amountOf (l .positions) (changeIn l))) (length (l .positions))
+positionsText (accept ls) = texts (lineAt (ls .marks) (ls .positions) (amountOf (ls .positions) (changeIn ls))) (length (ls .positions))
 
 -- the sheet of a file, settled into a slice of so many places
 unfoldable pub sheetOf : List ℕ → ℕ → List ℕ
@@ -30,7 +30,7 @@ sheetOf file places = positionsText (planOf fileLimits file places) ++ answerTex
 
 -- ---- sizes in bytes
 
--- no line of a position is longer: account 10, code 2, month 3, year 3, amount 20, currency 3, and a byte behind each
+-- no line of a position is longer: account 10, code 2, month 3, year 3, amount 20, currency 3, and a byte after each
 abbrev pub lineSize : ℕ
 lineSize = 47
 

@@ -23,7 +23,7 @@ fn write_total(pairs: &[u8; 200], words: &[u8], cents: i64, out: &mut [u8]) -> u
     cents_at + write_cents(pairs, cents, b'\n', &mut out[cents_at..])
 }
 
-// Writes words, a number and the byte behind it.
+// Writes words, a number and the byte after it.
 fn write_labelled(pairs: &[u8; 200], words: &[u8], n: u64, end: u8, out: &mut [u8]) -> usize
     requires { ⌜ now pairs ≡ digitPairs ⌝ }
     ensures { λ r. ⌜ Writes (now (words .entry) ++ ended (decimal n) end) r (now (out .entry)) (now (out .exit)) ⌝ }

@@ -1,4 +1,4 @@
-// The fields of a line, each with the byte behind it: a space, or the newline that ends the line.
+// The fields of a line, each with the byte after it: a space, or the newline that ends the line.
 ghost use mathlib.Core.Path.{_≡_};
 ghost use mathlib.Core.List.{[], _∷_};
 ghost use Rattle.text.specs.Decimal.{decimal, signedDecimal};

@@ -8,7 +8,7 @@ ghost use Rattle.dayfile.specs.Limits.{fileLimits};
 ghost use Rattle.dayfile.specs.Records.{marksIn, positionsIn, positionAt};
 ghost use Rattle.numbers.specs.Integers.{entryOf};
 ghost use Rattle.report.specs.Lines.{lineAt};
-ghost use Rattle.report.specs.Steps.{Words, lineWith, lineFrom, Named};
+ghost use Rattle.report.specs.Writers.{Words, lineWith, lineFrom, Named};
 use crate::fields::write_number;
 use crate::words::WORDS_SIZE;
 use crate::words::write_rest;

@@ -7,7 +7,7 @@ ghost use Rattle.text.specs.Writing.{Wrote, Writes};
 ghost use Rattle.dayfile.specs.Limits.{fileLimits};
 ghost use Rattle.settlement.specs.Settling.{said, planOf};
 ghost use Rattle.report.specs.Sheet.{answerText, positionsText, sheetWithin, amountsWithin};
-ghost use Rattle.report.specs.Steps.{Paid, countOf};
+ghost use Rattle.report.specs.Writers.{Paid, countOf};
 use crate::answers::write_answer;
 use crate::positions::write_positions;
 use dayfile::DayFile;

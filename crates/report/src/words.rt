@@ -8,7 +8,7 @@ ghost use Rattle.text.specs.Table.{digitPairs};
 ghost use Rattle.text.specs.Writing.{Writes, texts};
 ghost use Rattle.dayfile.specs.Records.{marksIn};
 ghost use Rattle.report.specs.Lines.{space, ended};
-ghost use Rattle.report.specs.Steps.{contractFields, wordsAt, Words, moneyIn, restIn};
+ghost use Rattle.report.specs.Writers.{contractFields, wordsAt, Words, moneyIn, restIn};
 use crate::fields::write_cents;
 use crate::fields::write_code;
 use crate::fields::write_currency;
@@ -20,7 +20,7 @@ use text::write_text;
 
 pub(crate) const WORDS_SIZE: usize = 16;
 
-// Writes a month and a year, each with a space behind it.
+// Writes a month and a year, each with a space after it.
 fn write_date(pairs: &[u8; 200], month: u8, year: u8, out: &mut [u8]) -> usize
     requires { ⌜ now pairs ≡ digitPairs ⌝ }
     ensures { λ r. ⌜ Writes (ended (decimal month) space ++ ended (decimal year) space) r (now (out .entry)) (now (out .exit)) ⌝ }
@@ -29,7 +29,7 @@ fn write_date(pairs: &[u8; 200], month: u8, year: u8, out: &mut [u8]) -> usize
     year_at + write_number(pairs, year as u64, b' ', &mut out[year_at..])
 }
 
-// Writes a mark's code, month and year, each with a space behind it.
+// Writes a mark's code, month and year, each with a space after it.
 fn write_contract(pairs: &[u8; 200], m: Mark, out: &mut [u8]) -> usize
     requires { ⌜ now pairs ≡ digitPairs ⌝ }
     ensures { λ r. ⌜ Writes (contractFields m) r (now (out .entry)) (now (out .exit)) ⌝ }
@@ -51,7 +51,7 @@ fn words_of(pairs: &[u8; 200], marks: &[u8], i: usize) -> [u8; WORDS_SIZE]
     words
 }
 
-// Writes the words of the marks, one behind the other.
+// Writes the words of the marks, one after the other.
 pub(crate) fn write_words(pairs: &[u8; 200], marks: &[u8], out: &mut [u8]) -> usize
     requires { ⌜ now pairs ≡ digitPairs ⌝ }
     ensures { λ r. ⌜ Writes (texts (wordsAt (marksIn (now (marks .entry)))) (length (marksIn (now (marks .entry)))))
@@ -79,7 +79,7 @@ fn write_money(pairs: &[u8; 200], words: &[u8], at: usize, amount: i64, out: &mu
     currency_at + write_text(&words[from..to], &mut out[currency_at..])
 }
 
-// Writes what stands behind the account: the fields of the words at a place, and the amount with its currency. Twelve bytes are copied
+// Writes what stands after the account: the fields of the words at a place, and the amount with its currency. Twelve bytes are copied
 // whatever the fields' length, and the amount overwrites what is not theirs.
 pub(crate) fn write_rest(
     pairs: &[u8; 200],

@@ -15,31 +15,31 @@ use Rattle.numbers.specs.Checks.{decisionOf}
 use Rattle.numbers.specs.declared.deciding.Decision.{Decision}
 use Rattle.numbers.specs.declared.deciding.Decision.the-variants.{Met, Unmet}
 use Rattle.checks.specs.Judging.{recordChecks, fileChecks}
-use Rattle.dayfile.proofs.Opening.{Laid, opens, laid-opens}
+use Rattle.dayfile.proofs.Opening.{Opens, opens, opens-file}
 use Rattle.checks.proofs.Passed.{passed-parts, parts-passed, mark-in, lots-in}
 use Rattle.settlement.specs.Settling.{settled, accept, refuse, planOf, answerBy, answerOf}
-use Rattle.settlement.specs.Steps.{Accepted, Payable, Named}
+use Rattle.settlement.specs.SettlingSteps.{ListsPass, Payable, Named}
 use Rattle.settlement.proofs.Plans.{planFrom, plan-decided}
 
-pub payable : (l : Lists) → Accepted l → Payable (l .positions)
+pub payable : (l : Lists) → ListsPass l → Payable (l .positions)
 payable l a =
     record {
-      few = a .small .positions;
-      mark = λ i h. omega (arith, mark-in l (a .passed) i h, a .small .marks);
+      few = a .lists-within .positions;
+      mark = λ i h. omega (arith, mark-in l (a .passed) i h, a .lists-within .marks);
       lots = λ i h. lots-in l (a .passed) i h;
     }
 
-pub named : (l : Lists) → Accepted l → Named (l .marks) (l .positions)
-named l a = record { few = a .small .marks; mark = λ i h. mark-in l (a .passed) i h }
+pub named : (l : Lists) → ListsPass l → Named (l .marks) (l .positions)
+named l a = record { few = a .lists-within .marks; mark = λ i h. mark-in l (a .passed) i h }
 
 pub record AcceptedFile (l : Limits) (f : List ℕ) (places : ℕ) : Type 0 where
-  pub laid : Laid l f
+  pub opens : Opens l f
   pub passed : decisionOf (recordChecks (listsOfFile f)) ≡ Unmet
   pub room : length (listsOfFile f .positions) ≤ places
 
 module _ (l : Limits) (f : List ℕ) (places : ℕ) where
   pub accepted-plan : AcceptedFile l f places → planOf l f places ≡ accept (listsOfFile f)
-  accepted-plan h = plan-decided l f places ∙ rw (parts-passed l f (laid-opens l f (h .laid)) (h .passed), le-ltb _ _ (h .room))
+  accepted-plan h = plan-decided l f places ∙ rw (parts-passed l f (opens-file l f (h .opens)) (h .passed), le-ltb _ _ (h .room))
 
   room-ok : (t : Bool) → ltb places (length (listsOfFile f .positions)) ≡ t → {n k : ℕ} {x y : ℤ} → answerBy (cond t (refuse 14 0) (accept (listsOfFile f))) ≡ settled n x y k
       → length (listsOfFile f .positions) ≤ places
@@ -50,7 +50,7 @@ module _ (l : Limits) (f : List ℕ) (places : ℕ) where
   by-decision (Met k i) q p = absurd (let z : _≡_ {A = ℕ} 0 1 = cc in omega arith)
   by-decision Unmet q p =
       let (o, passed) = passed-parts l f q in
-      record { laid = opens l f o .0; passed = passed; room = room-ok (ltb places (length (listsOfFile f .positions))) refl p }
+      record { opens = opens l f o .0; passed = passed; room = room-ok (ltb places (length (listsOfFile f .positions))) refl p }
 
   -- a file is accepted where its answer is a settlement
   pub settled-accepted : {n k : ℕ} {x y : ℤ} → answerOf l f places ≡ settled n x y k → AcceptedFile l f places

@@ -9,12 +9,12 @@ use borrow.Author.Tests.{ltb-true, ltb-false}
 use lib.ListN.{length, getD, drop, replicate, length-replicate}
 use lib.Seq.{getD-append-add, getD-drop}
 use lib.IntN.{ℤ, pos, natAbs, _-ℤ_}
-use Rattle.settlement.proofs.Pricing.{worth-bound}
+use Rattle.settlement.proofs.Pricing.{value-bound}
 use Rattle.numbers.specs.Folds.{table, front}
 use Rattle.dayfile.specs.Records.{markAt}
 use Rattle.dayfile.specs.Limits.{fileLimits}
 use Rattle.settlement.specs.Prices.{valueAt, changeOf}
-use Rattle.settlement.specs.Steps.{changesOf, blank, Bounded, changeCap}
+use Rattle.settlement.specs.SettlingSteps.{changesOf, blank, Bounded, changeCap}
 use Rattle.numbers.specs.Integers.{entryOf}
 use Rattle.dayfile.specs.declared.records.Mark.{Mark}
 use Rattle.numbers.proofs.Signed.{size-sub}
@@ -30,7 +30,7 @@ module _ (ms : List Mark) (final : ℕ → ℕ) where
   unfolding changeOf
   change-bound i =
       let m = markAt ms i in
-      omega (arith, size-sub (pos (valueAt m (final i))) (pos (valueAt m (m .previous))), worth-bound (m .code) (final i), worth-bound (m .code) (m .previous))
+      omega (arith, size-sub (pos (valueAt m (final i))) (pos (valueAt m (m .previous))), value-bound (m .code) (final i), value-bound (m .code) (m .previous))
 
   -- the array's entries
   pub change-at : (m : ℕ) → m < length ms → entryOf (changesOf ms final) m ≡ changeOf ms final m

@@ -88,7 +88,7 @@ pub header-counts : (l : Limits) (f : List ℕ) (a : List ℤ) {n k : ℕ} {aud 
     → (n ≡ u32At f 16) × (length (listsOfFile f .positions) ≡ n) × (length (listsOfFile f .marks) ≡ u32At f 0) × (length (listsOfFile f .corrections) ≡ u32At f 8)
 unfolding countsOf
 header-counts l f a e =
-    let whole = slices.accepted l f a e .laid .ends-at in
+    let whole = slices.accepted l f a e .opens .ends-at in
     let n = slices.counted l f a e in
     (sym n ∙ positions-sized f (countsOf f) whole, n, marks-sized f (countsOf f) whole, corrections-sized f (countsOf f) whole)
 
@@ -129,8 +129,8 @@ module _ (l : Limits) (f : List ℕ) (a : List ℤ) {n k : ℕ} {aud nzd : ℤ} 
       r ∙ rw (same, +ℤ-invr (pos w), *ℤ-zero (positionIn f i .lots))
 
   -- What is said of the position's mark has the position's two settlement prices, and the amount is lots times the change that it has.
-  pub amount-by-mark : {p q : ℕ} {d : Latest} {z : ℤ} → markAnswerOf l f (positionIn f i .mark) ≡ priced p q d z
-      → (p ≡ previousIn f i) × (q ≡ finalIn f i) × (amount ≡ positionIn f i .lots *ℤ z)
+  pub amount-by-mark : {previous final : ℕ} {d : Latest} {z : ℤ} → markAnswerOf l f (positionIn f i .mark) ≡ priced previous final d z
+      → (previous ≡ previousIn f i) × (final ≡ finalIn f i) × (amount ≡ positionIn f i .lots *ℤ z)
   unfolding amountOf
   amount-by-mark {z = z} said =
       let acc = slices.accepted l f a e in

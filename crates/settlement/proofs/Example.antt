@@ -14,7 +14,7 @@ use Rattle.numbers.specs.Folds.{first, some}
 use Rattle.dayfile.specs.Limits.{fileLimits}
 use Rattle.dayfile.specs.Records.{markAt, correctionAt, positionAt}
 use Rattle.checks.specs.Table.{listed, quoted, tickOf}
-use Rattle.settlement.specs.Worths.{worthOf}
+use Rattle.settlement.specs.ContractValue.{valueOrZero}
 use Rattle.numbers.specs.Checks.{decisionOf}
 use Rattle.checks.specs.Judging.{judgedOf}
 use Rattle.dayfile.specs.Layout.{countsOf}
@@ -50,7 +50,7 @@ pub case-settled : (answerOf fileLimits caseFile 2 ≡ settled 2 (pos 14436) (po
     × (amountsAfter fileLimits caseFile (pos 1 ∷ pos 2 ∷ pos 3 ∷ []) ≡ pos 24060 ∷ negsuc 9623 ∷ pos 3 ∷ [])
     × (answerOf fileLimits caseFile 1 ≡ refused 14 0)
 unfolding marks corrections positions caseFile nearest par priceLimit yieldAt products sameCode findIn find hasMonth billDividend billDivisor valueBy valueOf
-    u32At signed recordsOf first some markAt correctionAt positionAt listed quoted tickOf currencyOf worthOf
+    u32At signed recordsOf first some markAt correctionAt positionAt listed quoted tickOf currencyOf valueOrZero
     decisionOf judgedOf countsOf latestOf finalOf changeOf amountOf totalOf planOf answerOf amountsAfter
 case-settled = (refl, refl, refl)
 
@@ -68,7 +68,7 @@ twoMarks =
 pub two-marks-settled : (answerOf fileLimits twoMarks 2 ≡ settled 2 (pos 24060) (negsuc 9575) 1)
     × (amountsAfter fileLimits twoMarks (pos 1 ∷ pos 2 ∷ []) ≡ pos 24060 ∷ negsuc 9575 ∷ [])
 unfolding twoMarks nearest par priceLimit yieldAt products sameCode findIn find hasMonth billDividend billDivisor valueBy valueOf
-    u32At signed recordsOf first some markAt correctionAt positionAt listed quoted tickOf currencyOf worthOf
+    u32At signed recordsOf first some markAt correctionAt positionAt listed quoted tickOf currencyOf valueOrZero
     decisionOf judgedOf countsOf latestOf finalOf changeOf amountOf totalOf planOf answerOf amountsAfter
 two-marks-settled = (refl, refl)
 

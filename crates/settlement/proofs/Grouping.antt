@@ -12,7 +12,7 @@ use lib.Dec.{eqb, ltb}
 use lib.IntN.{ℤ, pos}
 use lib.ListN.{length, getD, set, replicate, length-set, length-replicate, getD-replicate}
 use lib.Seq.{getD-set-same, getD-set-other, ext-getD}
-use Rattle.numbers.specs.Folds.{Holds}
+use Rattle.numbers.specs.Folds.{Filled}
 use Rattle.numbers.proofs.Truth.{and-left, and-right, not-both}
 use Rattle.numbers.proofs.Tables.{table-same, length-front}
 use Rattle.dayfile.specs.Limits.{fileLimits}
@@ -21,13 +21,13 @@ use Rattle.dayfile.specs.declared.records.Mark.{Mark}
 use Rattle.dayfile.specs.declared.records.Correction.{Correction}
 use Rattle.products.specs.Products.{sameCode}
 use Rattle.products.specs.declared.table.Code.{Code}
-use Rattle.pricing.specs.Calls.{lanes, orZero, valueOf, worthsOf}
-use Rattle.pricing.proofs.SideBySide.{worth-at}
-use Rattle.settlement.specs.Worths.{worthOf}
+use Rattle.pricing.specs.Calls.{lanes, orZero, valueOf, valuesOrZero}
+use Rattle.pricing.proofs.SideBySide.{values-at}
+use Rattle.settlement.specs.ContractValue.{valueOrZero}
 use Rattle.settlement.specs.Prices.{finalOf, changeOf}
-use Rattle.settlement.specs.Steps.{changesOf, blank}
+use Rattle.settlement.specs.SettlingSteps.{changesOf, blank}
 use Rattle.settlement.specs.Groups.{groupSize, alikeIn, Grouped, InFile, Capped, lastOf, lanePrice, lanesChange, setAll, Right, Worked, Works}
-use Rattle.settlement.proofs.Pricing.{worth-bound}
+use Rattle.settlement.proofs.Pricing.{value-bound}
 use Rattle.settlement.proofs.Changes.{change-at, change-past, blank-at, length-blank}
 
 same-codes : (a b : Code) → sameCode a b ≡ true → a ≡ b
@@ -131,18 +131,18 @@ flagged-all target b g done (suc n) fits old new j e =
 
 -- the lanes
 module _ (ms : List Mark) (finals : List ℕ) {n i : ℕ} {g p v : List ℕ} {code : Code} (few : n ≤ fileLimits .marks) (all : n ≡ length ms) (a : Grouped ms n i g) (is : code ≡ markAt ms i .code)
-    (prices : Holds 0 (lanePrice ms finals g) lanes p) (values : v ≡ worthsOf code p) where
-  lane-value : (k : ℕ) → k < lanes → getD v k 0 ≡ worthOf code (lanePrice ms finals g k)
-  unfolding worthOf
-  lane-value k h = ap (λ (x : List ℕ). getD x k 0) values ∙ worth-at code p k h ∙ ap (λ (x : ℕ). orZero (valueOf code x)) (prices .entry k h)
+    (prices : Filled 0 (lanePrice ms finals g) lanes p) (values : v ≡ valuesOrZero code p) where
+  lane-value : (k : ℕ) → k < lanes → getD v k 0 ≡ valueOrZero code (lanePrice ms finals g k)
+  unfolding valueOrZero
+  lane-value k h = ap (λ (x : List ℕ). getD x k 0) values ∙ values-at code p k h ∙ ap (λ (x : ℕ). orZero (valueOf code x)) (prices .entry k h)
 
   pub lanes-capped : Capped v
-  lanes-capped = record { lane = λ k h. rw (lane-value k h) (worth-bound code (lanePrice ms finals g k)) }
+  lanes-capped = record { lane = λ k h. rw (lane-value k h) (value-bound code (lanePrice ms finals g k)) }
 
-  lane-last : (k : ℕ) → k < groupSize → getD v k 0 ≡ worthOf (markAt ms (getD g k 0) .code) (lastOf finals (getD g k 0))
+  lane-last : (k : ℕ) → k < groupSize → getD v k 0 ≡ valueOrZero (markAt ms (getD g k 0) .code) (lastOf finals (getD g k 0))
   lane-last k h = lane-value k (omega arith) ∙ rw (lt-ltb k groupSize h, is, a .alike k h)
 
-  lane-previous : (k : ℕ) → k < groupSize → getD v (k + groupSize) 0 ≡ worthOf (markAt ms (getD g k 0) .code) (markAt ms (getD g k 0) .previous)
+  lane-previous : (k : ℕ) → k < groupSize → getD v (k + groupSize) 0 ≡ valueOrZero (markAt ms (getD g k 0) .code) (markAt ms (getD g k 0) .previous)
   lane-previous k h =
       let e : k + groupSize - groupSize ≡ k = omega arith in
       lane-value (k + groupSize) (omega arith) ∙ rw (le-ltb (k + groupSize) groupSize (omega arith), e, is, a .alike k h)
@@ -231,6 +231,6 @@ reached-all ms final {n} {i} {a} e few h r =
     go j false p = r .past j (ltb-false j n p)
 
 -- by the list of final prices or by the final prices
-pub changes-by : (ms : List Mark) (cs : List Correction) {n : ℕ} {finals : List ℕ} → n ≡ length ms → Holds 0 (finalOf ms cs) n finals → changesOf ms (lastOf finals) ≡ changesOf ms (finalOf ms cs)
+pub changes-by : (ms : List Mark) (cs : List Correction) {n : ℕ} {finals : List ℕ} → n ≡ length ms → Filled 0 (finalOf ms cs) n finals → changesOf ms (lastOf finals) ≡ changesOf ms (finalOf ms cs)
 unfolding changeOf
 changes-by ms cs {n} {finals} e a = rw (table-same (changeOf ms (lastOf finals)) (changeOf ms (finalOf ms cs)) (length ms) (λ i h. rw (a .entry i (rw e h))))

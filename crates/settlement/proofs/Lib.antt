@@ -1,6 +1,6 @@
 pub mod Demands
 pub mod Example
-pub mod Answers
+pub mod AnsweredFiles
 pub mod Refusals
 pub mod Slices
 pub mod Values
@@ -17,5 +17,5 @@ pub mod OneMark
 pub mod Changes
 pub mod Grouping
 pub mod Sizes
-pub mod Latests
+pub mod HighestNumbered
 pub mod Pricing

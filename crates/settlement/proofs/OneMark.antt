@@ -13,7 +13,7 @@ use Rattle.numbers.proofs.Truth.{not-both}
 use Rattle.dayfile.specs.Limits.{Limits, fileLimits}
 use Rattle.dayfile.specs.Records.{marksIn, correctionsIn, markAt, correctionAt}
 use Rattle.dayfile.specs.Layout.{markBytes, correctionBytes, listsOfFile}
-use Rattle.dayfile.proofs.Opening.{laid-opens}
+use Rattle.dayfile.proofs.Opening.{opens-file}
 use Rattle.checks.proofs.Passed.{parts-passed}
 use Rattle.settlement.proofs.Accepted.{AcceptedFile}
 use Rattle.dayfile.specs.declared.file.DayFile.{DayFile}
@@ -21,7 +21,7 @@ use Rattle.dayfile.specs.declared.records.Mark.{Mark}
 use Rattle.dayfile.specs.declared.records.Correction.{Correction}
 use Rattle.checks.specs.Judging.{judgedOf}
 use Rattle.checks.specs.declared.judging.Judged.{Judged}
-use Rattle.settlement.specs.Worths.{worthOf}
+use Rattle.settlement.specs.ContractValue.{valueOrZero}
 use Rattle.settlement.specs.Prices.{Latest, Price, newerOf, afterOf, latestOf, orToday, finalOf, changeOf}
 use Rattle.settlement.specs.OneMark.{MarkAnswer, priced, latestBy, pricedMark, markAnswerIn, markAnswerBy, markAnswerOf}
 use Rattle.settlement.proofs.Changes.{change-by}
@@ -66,7 +66,7 @@ priced-by : {a a′ q q′ : ℕ} {l l′ : Latest} {z z′ : ℤ} → a ≡ a�
 priced-by a q l z = cc
 
 pub mark-priced : (ms : List Mark) (cs : List Correction) (m : ℕ) (b : Bool) (n p : ℕ) {k : Mark} {q : ℕ} {z : ℤ} → k ≡ markAt ms m → latestBy b n p ≡ latestOf cs m (length cs)
-    → q ≡ orToday (latestBy b n p) (k .today) → z ≡ pos (worthOf (k .code) q) -ℤ pos (worthOf (k .code) (k .previous)) → priced (k .previous) q (latestBy b n q) z ≡ pricedMark ms cs m
+    → q ≡ orToday (latestBy b n p) (k .today) → z ≡ pos (valueOrZero (k .code) q) -ℤ pos (valueOrZero (k .code) (k .previous)) → priced (k .previous) q (latestBy b n q) z ≡ pricedMark ms cs m
 unfolding finalOf
 mark-priced ms cs m b n p {k} {q} e l f c =
     let final : q ≡ finalOf ms cs m = f ∙ rw (l, e) in
@@ -85,4 +85,4 @@ module _ (f : List ℕ) (m : ℕ) where
 pub mark-answer : (l : Limits) (f : List ℕ) (m : ℕ) {places : ℕ} → AcceptedFile l f places → m < length (listsOfFile f .marks)
     → markAnswerOf l f m ≡ pricedMark (listsOfFile f .marks) (listsOfFile f .corrections) m
 unfolding markAnswerOf judgedOf
-mark-answer l f m acc h = rw (parts-passed l f (laid-opens l f (acc .laid)) (acc .passed), lt-leb _ _ h)
+mark-answer l f m acc h = rw (parts-passed l f (opens-file l f (acc .opens)) (acc .passed), lt-leb _ _ h)

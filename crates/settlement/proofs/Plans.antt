@@ -22,10 +22,10 @@ use Rattle.checks.specs.Judging.{recordChecks, fileChecks, judgedBy, judgedOf}
 use Rattle.checks.specs.declared.judging.Judged.{Judged}
 use Rattle.checks.specs.declared.judging.Judged.the-variants as judged
 use Rattle.dayfile.proofs.Opening.{laid-out}
-use Rattle.dayfile.proofs.Parts.{small}
+use Rattle.dayfile.proofs.Parts.{lists-within}
 use Rattle.checks.proofs.Passed.{passed-parts}
 use Rattle.settlement.specs.Settling.{settled, refused, said, answerBy, Plan, accept, refuse, roomPlan, judgedPlan, planOf, answerOf, amountsAfter}
-use Rattle.settlement.specs.Steps.{Passing, Settles}
+use Rattle.settlement.specs.SettlingSteps.{ListsPassWith, Settles}
 use Rattle.settlement.specs.declared.settling.Settlement.{Settlement}
 use Rattle.settlement.specs.declared.settling.Settlement.the-variants.{Refused}
 
@@ -50,8 +50,8 @@ settles-as e s = rw e s
 pub settles-of : (places : ℕ) {l m : Lists} {r : Settlement} {a b : List ℤ} → l ≡ m → Settles (roomPlan l places) r a b → Settles (roomPlan m places) r a b
 settles-of places e s = rw e at s
 
-pub passing-of : {l m : Lists} {r : ℕ} → l ≡ m → Passing m r → Passing l r
-passing-of e p = rw e p
+pub lists-pass-of : {l m : Lists} {r : ℕ} → l ≡ m → ListsPassWith m r → ListsPassWith l r
+lists-pass-of e p = rw e p
 
 -- ---- from what a file is judged to be
 
@@ -85,16 +85,16 @@ module _ (f : List ℕ) where
       let w = settles-as (ap (judgedPlan f (length a)) (sym e ∙ g)) h in
       (w .answer, w .written)
 
-  -- a sound file's lists passed
-  sound-by : (d : Decision) → decisionOf (fileChecks fileLimits f) ≡ d → {c : DayFile} {r : ℕ} → judgedBy (countsOf f) (resentOf (listsOfFile f .corrections)) d ≡ judged.Sound c r
-      → Passing (listsIn f c) r
-  sound-by (Met k i) e p = absurd (let z : _≡_ {A = ℕ} 0 1 = cc in omega arith)
-  sound-by Unmet e {c} {r} p =
+  -- the lists of a file that passes
+  passed-lists-by : (d : Decision) → decisionOf (fileChecks fileLimits f) ≡ d → {c : DayFile} {r : ℕ} → judgedBy (countsOf f) (resentOf (listsOfFile f .corrections)) d ≡ judged.Passed c r
+      → ListsPassWith (listsIn f c) r
+  passed-lists-by (Met k i) e p = absurd (let z : _≡_ {A = ℕ} 0 1 = cc in omega arith)
+  passed-lists-by Unmet e {c} {r} p =
       let same : countsOf f ≡ c = cc in
       let counted : resentOf (listsOfFile f .corrections) ≡ r = cc in
       let (h, passed) = passed-parts fileLimits f e in
-      rw (← same) (record { accepted = record { small = small f (countsOf f) (laid-out f h .limited); passed = passed }; counted = sym counted })
+      rw (← same) (record { lists-pass = record { lists-within = lists-within f (countsOf f) (laid-out f h .counts-within); passed = passed }; counted = sym counted })
 
-  pub sound : {o : Judged} {c : DayFile} {r : ℕ} → o ≡ judgedOf fileLimits f → o ≡ judged.Sound c r → Passing (listsIn f c) r
+  pub passed-lists : {o : Judged} {c : DayFile} {r : ℕ} → o ≡ judgedOf fileLimits f → o ≡ judged.Passed c r → ListsPassWith (listsIn f c) r
   unfolding judgedOf
-  sound p e = sound-by (decisionOf (fileChecks fileLimits f)) refl (sym p ∙ e)
+  passed-lists p e = passed-lists-by (decisionOf (fileChecks fileLimits f)) refl (sym p ∙ e)

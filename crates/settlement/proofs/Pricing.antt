@@ -4,39 +4,39 @@ use Prim.Native.Nat.{ℕ, _%_, _≤_}
 use native.Mathlib.Omega.{arith}
 use Rattle.pricing.specs.Calls.{Answer, given, refused, valueOf}
 use Rattle.products.specs.Products.{find, priceLimit}
-use Rattle.products.specs.declared.table.Found.{Found}
-use Rattle.products.specs.declared.table.Found.the-variants.{At, Missing}
+use Rattle.products.specs.declared.table.NamedProduct.{NamedProduct}
+use Rattle.products.specs.declared.table.NamedProduct.the-variants.{At, Missing}
 use Rattle.products.specs.declared.table.Code.{Code}
 use Rattle.pricing.proofs.Promises as pricing
 use mathlib.Core.Bool.{true}
 use Rattle.pricing.specs.Sizes.{valueCap}
 use Rattle.checks.specs.Table.{listed, listedIn, tickOf, tickIn}
 use Rattle.pricing.specs.Calls.{orZero}
-use Rattle.settlement.specs.Worths.{worthOf}
+use Rattle.settlement.specs.ContractValue.{valueOrZero}
 use Rattle.numbers.proofs.Truth.{not-both}
 
 by-answer : (a : Code) (p : ℕ) (x : Answer) → valueOf a p ≡ x → orZero x ≤ valueCap
 by-answer a p (given n) e = pricing.value-cap a p e
 by-answer a p (refused k i) e = omega arith
 
-pub worth-bound : (a : Code) (p : ℕ) → worthOf a p ≤ valueCap
-unfolding worthOf
-worth-bound a p = by-answer a p (valueOf a p) refl
+pub value-bound : (a : Code) (p : ℕ) → valueOrZero a p ≤ valueCap
+unfolding valueOrZero
+value-bound a p = by-answer a p (valueOf a p) refl
 
 -- from what pricing answered
-pub by-worth : (a : Code) (p : ℕ) {n : ℕ} → n ≡ orZero (valueOf a p) → (n ≡ worthOf a p) × (n ≤ valueCap)
-unfolding worthOf
-by-worth a p e = (e, rw e (by-answer a p (valueOf a p) refl))
+pub by-value-or-zero : (a : Code) (p : ℕ) {n : ℕ} → n ≡ orZero (valueOf a p) → (n ≡ valueOrZero a p) × (n ≤ valueCap)
+unfolding valueOrZero
+by-value-or-zero a p e = (e, rw e (by-answer a p (valueOf a p) refl))
 
 -- a price that is allowed for a product has a value
 pub valued : (a : Code) (p : ℕ) → listed a ≡ true → p ≤ priceLimit → p % tickOf a ≡ 0 → (n : ℕ) × (valueOf a p ≡ given n)
 unfolding listed tickOf
 valued a p h low on = by-found (find a) refl h on
   where
-    by-found : (o : Found) → find a ≡ o → listedIn o ≡ true → p % tickIn o ≡ 0 → (n : ℕ) × (valueOf a p ≡ given n)
+    by-found : (o : NamedProduct) → find a ≡ o → listedIn o ≡ true → p % tickIn o ≡ 0 → (n : ℕ) × (valueOf a p ≡ given n)
     by-found (At q) e h on = (_, pricing.value-given a e low on)
     by-found Missing e h on = not-both h refl
 
-pub worth-is : (a : Code) (p : ℕ) {n : ℕ} → valueOf a p ≡ given n → worthOf a p ≡ n
-unfolding worthOf
-worth-is a p e = rw e
+pub value-or-zero-is : (a : Code) (p : ℕ) {n : ℕ} → valueOf a p ≡ given n → valueOrZero a p ≡ n
+unfolding valueOrZero
+value-or-zero-is a p e = rw e

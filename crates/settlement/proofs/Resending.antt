@@ -21,7 +21,7 @@ use Rattle.numbers.proofs.Tables.{take-front}
 use Rattle.settlement.proofs.Corrections.{listsWith, apart, still-passes}
 use Rattle.settlement.proofs.FinalPrices.{same-finals}
 use Rattle.settlement.proofs.ResentCount.{same-numbers}
-use Rattle.dayfile.proofs.Opening.{Laid}
+use Rattle.dayfile.proofs.Opening.{Opens}
 use Rattle.settlement.proofs.Accepted.{AcceptedFile, accepted-plan, settled-accepted}
 
 -- ---- "sent again": the same records, and so the same corrections
@@ -64,10 +64,10 @@ corrections-within rs qs h i l =
 -- ---- the resend theorem
 
 module _ (l : Limits) (f g : List ℕ) (copies p q : ℕ) (r : Resent f g copies) (acc : AcceptedFile l f p) (fits : u32At g 8 ≤ l .corrections) where
-  in-line : Laid l g
+  in-line : Opens l g
   unfolding countsOf
   in-line =
-      let h = acc .laid in
+      let h = acc .opens in
       let m = r .mark-count in
       let c = r .correction-count in
       let n = r .position-count in
@@ -104,7 +104,7 @@ module _ (l : Limits) (f g : List ℕ) (copies p q : ℕ) (r : Resent f g copies
   passes = still-passes (listsOfFile f .marks) (listsOfFile f .positions) (listsOfFile f .corrections) (acc .passed) (listsOfFile g .corrections) back
 
   pub still-accepted : length (listsOfFile f .positions) ≤ q → AcceptedFile l g q
-  still-accepted room = record { laid = in-line; passed = subst (λ (ls : Lists). decisionOf (recordChecks ls) ≡ Unmet) (sym lists-are) passes; room = rw positions-same room }
+  still-accepted room = record { opens = in-line; passed = subst (λ (ls : Lists). decisionOf (recordChecks ls) ≡ Unmet) (sym lists-are) passes; room = rw positions-same room }
 
   pub changes-same : changeIn merged ≡ changeIn (listsOfFile f)
   changes-same =

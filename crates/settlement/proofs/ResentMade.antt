@@ -20,9 +20,9 @@ use Rattle.dayfile.specs.declared.file.Opened.the-variants.{File}
 use Rattle.numbers.proofs.Sections.{size-is}
 use Rattle.dayfile.proofs.Parts.{corrections-sized}
 use Rattle.settlement.proofs.Resending.{sent-within, sent-length}
-use Rattle.dayfile.proofs.Opening.{opens, laid-out, laid-opens}
+use Rattle.dayfile.proofs.Opening.{opens, laid-out, opens-file}
 use Rattle.settlement.proofs.Accepted.{settled-accepted}
-use Rattle.dayfile.proofs.Made.{Whole, counts-by, sections-whole, made-counts, made-length, made-marks, made-corrections, made-positions, made-is-bytes}
+use Rattle.dayfile.proofs.Made.{WholeRecords, counts-by, sections-whole, made-counts, made-length, made-marks, made-corrections, made-positions, made-is-bytes}
 use Rattle.dayfile.proofs.Made.{made-marks-at, made-corrections-at, made-positions-at}
 
 -- ---- records of one size and their bytes
@@ -74,14 +74,14 @@ module _ (f : List ℕ) (o : openedOf fileLimits f ≡ File (countsOf f)) (ds : 
   sized : Sized correctionSize ds
   sized r m = corrections-whole (correctionBytes f (countsOf f)) r (sent-within sent (λ c n. n) r m)
 
-  whole : Whole (markBytes f (countsOf f)) (bytesOf ds) (positionBytes f (countsOf f)) counts
+  whole : WholeRecords (markBytes f (countsOf f)) (bytesOf ds) (positionBytes f (countsOf f)) counts
   unfolding countsIn
   whole =
       let w = sections-whole f o in
       let n : length (bytesOf ds) ≡ correctionSize * length ds = length-bytesOf correctionSize ds sized in
       let k : length (bytesOf ds) / correctionSize ≡ length ds = omega arith in
       record {
-        limited = record { marks = w .limited .marks; corrections = few; positions = w .limited .positions };
+        counts-within = record { marks = w .counts-within .marks; corrections = few; positions = w .counts-within .positions };
         counts = sym (counts-by counts (sym (ap (λ (e : DayFile). e .marks) (w .counts)))
             (size-is correctionOf correctionSize (bytesOf ds) ∙ k) (sym (ap (λ (e : DayFile). e .positions) (w .counts))));
         marks = w .marks;
@@ -138,5 +138,5 @@ pub resent-exists : (f : List ℕ) (ds : List (List ℕ)) (copies n k : ℕ) (x 
     → SentAgain (correctionRecords f) (correctionRecords f) ds copies → length ds ≤ fileLimits .corrections
     → (g : List ℕ) × Resent f g copies × (correctionRecords g ≡ ds) × (u32At g 8 ≤ fileLimits .corrections) × (Bytes f → Bytes g)
 resent-exists f ds copies n k x y a e sent few =
-    let o = laid-opens fileLimits f (settled-accepted fileLimits f (length a) e .laid) in
+    let o = opens-file fileLimits f (settled-accepted fileLimits f (length a) e .opens) in
     (withCorrections f ds, resent-made f o ds sent few, records-are f o ds sent few, few-counted f o ds sent few, made-of-bytes f o ds sent few)

@@ -8,7 +8,7 @@ use native.Mathlib.Numerals.{add-one}
 use native.Mathlib.Omega.{arith}
 use lib.IntN.{ℤ, natAbs, _+ℤ_, +ℤ-idr}
 use lib.ListN.{length, getD}
-use Rattle.numbers.specs.Folds.{sum, Holds}
+use Rattle.numbers.specs.Folds.{sum, Filled}
 use Rattle.numbers.specs.Integers.{entryOf}
 use Rattle.products.specs.Products.{currencyOf}
 use Rattle.products.specs.declared.table.Currency.{Currency}
@@ -17,7 +17,7 @@ use Rattle.dayfile.specs.Records.{markAt, positionAt}
 use Rattle.dayfile.specs.declared.records.Mark.{Mark}
 use Rattle.dayfile.specs.declared.records.Position.{Position}
 use Rattle.settlement.specs.Settling.{keepOf, amountOf, shareOf, sumOfAmounts}
-use Rattle.settlement.specs.Steps.{amountCap, totalCap, Payable, Named, Bounded, isNzd, nzdAt, currencyBy, Addable, Adds, flaggedShare, PaysFlagged, Pays}
+use Rattle.settlement.specs.SettlingSteps.{amountCap, totalCap, Payable, Named, Bounded, isNzd, nzdAt, currencyBy, Addable, Adds, flaggedShare, PaysFlagged, Pays}
 use Rattle.settlement.specs.declared.amounts.Sums.{Sums}
 use Rattle.numbers.proofs.Chain.{by-two}
 use Rattle.numbers.proofs.SignedSums.{sum-below}
@@ -58,7 +58,7 @@ currency-back Aud = refl
 currency-back Nzd = refl
 
 -- where the array is that of the file's marks
-pub pays : (ms : List Mark) (ps : List Position) (a : List ℤ) {flags : List Bool} → Named ms ps → Holds false (nzdAt ms) (length ms) flags
+pub pays : (ms : List Mark) (ps : List Position) (a : List ℤ) {flags : List Bool} → Named ms ps → Filled false (nzdAt ms) (length ms) flags
     → {r : Sums} {before after : List ℤ} → PaysFlagged ps a flags r before after → Pays ms ps a r before after
 unfolding flaggedShare shareOf
 pays ms ps a {flags} named held p = record { written = p .written; aud = p .aud ∙ sums Aud; nzd = p .nzd ∙ sums Nzd }

@@ -15,7 +15,7 @@ use Rattle.dayfile.specs.Limits.{lotsLimit, fileLimits}
 use Rattle.numbers.specs.Folds.{sum}
 use Rattle.dayfile.specs.Records.{positionAt}
 use Rattle.settlement.specs.Settling.{amountOf, keepOf}
-use Rattle.settlement.specs.Steps.{Payable, Bounded, Addable, amountCap, changeCap}
+use Rattle.settlement.specs.SettlingSteps.{Payable, Bounded, Addable, amountCap, changeCap}
 use Rattle.numbers.specs.Integers.{entryOf}
 use Rattle.dayfile.specs.declared.records.Position.{Position}
 use Rattle.numbers.proofs.Signed.{size-sum, size-mul, fits, back-small}

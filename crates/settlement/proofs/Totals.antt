@@ -11,7 +11,7 @@ use Rattle.numbers.specs.Folds.{front}
 use Rattle.dayfile.specs.Records.{Lists, markAt, positionAt}
 use Rattle.settlement.specs.Prices.{finalOf}
 use Rattle.settlement.specs.Settling.{keepOf, amountOf, netOf, shareOf, sumOfAmounts, totalOf, changeIn, paid}
-use Rattle.settlement.specs.Steps.{Accepted, changesOf}
+use Rattle.settlement.specs.SettlingSteps.{ListsPass, changesOf}
 use Rattle.numbers.specs.Integers.{entryOf}
 use Rattle.dayfile.specs.declared.records.Mark.{Mark}
 use Rattle.dayfile.specs.declared.records.Position.{Position}
@@ -41,7 +41,7 @@ module _ (ms : List Mark) (ps : List Position) (change : ℕ → ℤ) (wanted : 
 
 -- ---- from the array to the definitions
 
-module _ (l : Lists) (acc : Accepted l) where
+module _ (l : Lists) (acc : ListsPass l) where
   changes : List ℤ
   changes = changesOf (l .marks) (finalOf (l .marks) (l .corrections))
 

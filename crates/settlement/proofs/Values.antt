@@ -20,7 +20,7 @@ use Rattle.dayfile.specs.declared.records.Mark.{Mark}
 use Rattle.numbers.proofs.Searches.{or-none}
 use Rattle.checks.proofs.Passed.{mark-passes, correction-passes, mark-in}
 use Rattle.settlement.proofs.FinalPrices.{final-price-is}
-use Rattle.settlement.proofs.Pricing.{valued, worth-is}
+use Rattle.settlement.proofs.Pricing.{valued, value-or-zero-is}
 
 -- a price that passes 6 and 7 for a mark
 record Allowed (m : Mark) (p : ℕ) : Type 0 where
@@ -74,7 +74,7 @@ module _ (l : Lists) (passed : decisionOf (recordChecks l) ≡ Unmet) where
     change-is : {v w : ℕ} → valueOf (markAt (l .marks) m .code) (markAt (l .marks) m .previous) ≡ given v
         → valueOf (markAt (l .marks) m .code) (finalOf (l .marks) (l .corrections) m) ≡ given w → changeIn l m ≡ pos w -ℤ pos v
     unfolding changeOf
-    change-is x y = rw (worth-is _ _ x, worth-is _ _ y)
+    change-is x y = rw (value-or-zero-is _ _ x, value-or-zero-is _ _ y)
 
   -- lots times (value at the final price − value at the previous price)
   pub amount-valued : (i : ℕ) → i < length (l .positions)

@@ -11,7 +11,8 @@ use Rattle.checks.specs.Judging.{fileChecks}
 
 -- 14: the amounts slice has fewer than N places
 abbrev pub roomCheck : Lists → ℕ → Check
-roomCheck ls places = record { number = 14; Wrong = λ i. places < length (ls .positions); test = λ i. ltb places (length (ls .positions)) }
+roomCheck ls places =
+    record { number = 14; Condition = λ i. places < length (ls .positions); test = λ i. ltb places (length (ls .positions)) }
 
 -- all checks of a settlement, in their order
 abbrev pub settlementChecks : Limits → List ℕ → ℕ → Checks

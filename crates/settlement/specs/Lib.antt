@@ -1,8 +1,8 @@
-pub mod Worths
+pub mod ContractValue
 pub mod Conditions
 pub mod Prices
 pub mod Settling
 pub mod OneMark
 pub mod Resend
-pub mod Steps
+pub mod SettlingSteps
 pub mod Groups

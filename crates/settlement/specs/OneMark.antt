@@ -44,7 +44,7 @@ markAnswerIn ms cs m = cond (noMark ms m) (refused 12 m) (pricedMark ms cs m)
 
 abbrev pub markAnswerBy : List ℕ → ℕ → Judged → MarkAnswer
 markAnswerBy f m (judged.Refused k i) = refused k i
-markAnswerBy f m (judged.Sound counts resent) = markAnswerIn (listsIn f counts .marks) (listsIn f counts .corrections) m
+markAnswerBy f m (judged.Passed counts resent) = markAnswerIn (listsIn f counts .marks) (listsIn f counts .corrections) m
 
 -- of a file: the refusal of a file that does not pass its checks comes first
 unfoldable pub markAnswerOf : Limits → List ℕ → ℕ → MarkAnswer

@@ -7,7 +7,7 @@ use mathlib.Core.List.{List}
 use lib.Dec.{leb, eqb}
 use lib.IntN.{ℤ, pos, _-ℤ_}
 use lib.ListN.{length}
-use Rattle.settlement.specs.Worths.{worthOf}
+use Rattle.settlement.specs.ContractValue.{valueOrZero}
 use Rattle.dayfile.specs.Records.{markAt, correctionAt}
 use Rattle.dayfile.specs.declared.records.Mark.{Mark}
 use Rattle.dayfile.specs.declared.records.Correction.{Correction}
@@ -24,7 +24,7 @@ newerOf (Price n p) c = cond (leb n (c .number)) (Price (c .number) (c .price)) 
 
 -- after a correction, which may be of another mark
 abbrev pub afterOf : ℕ → Latest → Correction → Latest
-afterOf m l c = cond (eqb (c .mark) m) (newerOf l c) l
+afterOf m latest c = cond (eqb (c .mark) m) (newerOf latest c) latest
 
 -- the highest-numbered one of the first n corrections that names the mark m
 unfoldable pub latestOf : List Correction → ℕ → ℕ → Latest
@@ -33,7 +33,7 @@ latestOf cs m (suc n) = afterOf m (latestOf cs m n) (correctionAt cs n)
 
 abbrev pub orToday : Latest → ℕ → ℕ
 orToday Never p = p
-orToday (Price n q) p = q
+orToday (Price n price) p = price
 
 -- the final price of the mark m
 unfoldable pub finalOf : List Mark → List Correction → ℕ → ℕ
@@ -53,7 +53,7 @@ AllIn cs ds = (i : ℕ) → i < length cs → (j : ℕ) × (j < length ds) × (c
 
 -- the value of one contract of a mark
 abbrev pub valueAt : Mark → ℕ → ℕ
-valueAt m p = worthOf (m .code) p
+valueAt m p = valueOrZero (m .code) p
 
 -- the value of a mark at the final price less the value at the previous price
 unfoldable pub changeOf : List Mark → (ℕ → ℕ) → ℕ → ℤ

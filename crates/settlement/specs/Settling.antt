@@ -99,7 +99,7 @@ roomPlan ls places = cond (roomCheck ls places .test 0) (refuse (roomCheck ls pl
 
 abbrev pub judgedPlan : List ℕ → ℕ → Judged → Plan
 judgedPlan f places (judged.Refused k i) = refuse k i
-judgedPlan f places (judged.Sound counts resent) = roomPlan (listsIn f counts) places
+judgedPlan f places (judged.Passed counts resent) = roomPlan (listsIn f counts) places
 
 -- what is to be done with a file, for a slice of so many places
 unfoldable pub planOf : Limits → List ℕ → ℕ → Plan

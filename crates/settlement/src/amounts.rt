@@ -13,10 +13,10 @@ ghost use mathlib.Core.Bool.{false};
 ghost use Prim.Native.Nat.{_≤_};
 ghost use lib.IntN.{natAbs, _*ℤ_};
 ghost use lib.ListN.{length};
-ghost use Rattle.numbers.specs.Folds.{Holds};
+ghost use Rattle.numbers.specs.Folds.{Filled};
 ghost use Rattle.dayfile.specs.Limits.{fileLimits, lotsLimit};
 ghost use Rattle.dayfile.specs.Records.{marksIn, positionsIn};
-ghost use Rattle.settlement.specs.Steps.{changeCap, Payable, Named, Bounded, isNzd, nzdAt, Addable, Adds, PaysFlagged, Pays};
+ghost use Rattle.settlement.specs.SettlingSteps.{changeCap, Payable, Named, Bounded, isNzd, nzdAt, Addable, Adds, PaysFlagged, Pays};
 
 // Lots times a change in value.
 fn times(lots: i64, change: i64) -> i64
@@ -63,7 +63,7 @@ fn is_nzd(c: Currency) -> bool
 // Whether each mark is in New Zealand dollars.
 fn nzds(marks: &[u8]) -> [bool; DayFile::MAX_MARKS]
     requires { ⌜ length (marksIn (now marks)) ≤ fileLimits .marks ⌝ }
-    ensures { λ r. ⌜ Holds false (nzdAt (marksIn (now (marks .entry)))) (length (marksIn (now (marks .entry)))) r ⌝ }
+    ensures { λ r. ⌜ Filled false (nzdAt (marksIn (now (marks .entry)))) (length (marksIn (now (marks .entry)))) r ⌝ }
 {
     let n = mark_count(marks);
     let mut r = [false; DayFile::MAX_MARKS];

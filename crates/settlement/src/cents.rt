@@ -1,7 +1,7 @@
 // Money in the cents of its own currency. The numbers are seen only here, so that no cents of one currency are added to the other's.
 ghost use mathlib.Core.Path.{_≡_};
 ghost use lib.IntN.{_+ℤ_};
-ghost use Rattle.settlement.specs.Steps.{Addable};
+ghost use Rattle.settlement.specs.SettlingSteps.{Addable};
 
 // A number of Australian cents.
 pub struct AudCents(i64);

@@ -5,8 +5,8 @@ use dayfile::DayFile;
 use dayfile::mark_at;
 use dayfile::mark_count;
 use pricing::LANES;
-use pricing::worth;
-use pricing::worths;
+use pricing::value_or_zero;
+use pricing::values_or_zero;
 use products::Code;
 use products::is_bond;
 use products::same_code;
@@ -15,14 +15,14 @@ ghost use mathlib.Core.Bool.{true};
 ghost use Prim.Native.Nat.{_<_, _≤_};
 ghost use lib.IntN.{pos, _-ℤ_};
 ghost use lib.ListN.{length};
-ghost use Rattle.numbers.specs.Folds.{Holds};
+ghost use Rattle.numbers.specs.Folds.{Filled};
 ghost use Rattle.dayfile.specs.Limits.{fileLimits};
 ghost use Rattle.dayfile.specs.Records.{marksIn, correctionsIn, markAt};
 ghost use Rattle.pricing.specs.Sizes.{valueCap};
 ghost use Rattle.pricing.specs.Calls.{lanes};
-ghost use Rattle.settlement.specs.Worths.{worthOf};
+ghost use Rattle.settlement.specs.ContractValue.{valueOrZero};
 ghost use Rattle.settlement.specs.Prices.{finalOf, changeOf};
-ghost use Rattle.settlement.specs.Steps.{blank, changesOf};
+ghost use Rattle.settlement.specs.SettlingSteps.{blank, changesOf};
 ghost use Rattle.settlement.specs.Groups.{groupSize, alikeIn, Grouped, InFile, Capped, lastOf, lanePrice, lanesChange, setAll, Works};
 
 // The difference of two values.
@@ -100,7 +100,7 @@ fn lane_price(marks: &[u8], finals: &[u32; DayFile::MAX_MARKS], g: [usize; GROUP
 // The prices of all lanes.
 fn lane_prices(marks: &[u8], finals: &[u32; DayFile::MAX_MARKS], g: [usize; GROUP]) -> [u32; LANES]
     requires { ⌜ InFile g ⌝ }
-    ensures { λ r. ⌜ Holds 0 (lanePrice (marksIn (now (marks .entry))) (now (finals .entry)) g) lanes r ⌝ }
+    ensures { λ r. ⌜ Filled 0 (lanePrice (marksIn (now (marks .entry))) (now (finals .entry)) g) lanes r ⌝ }
 {
     let mut p = [0; LANES];
     let mut k = 0;
@@ -146,16 +146,16 @@ fn work_group(
 {
     let g = group(marks, done, n, i);
     let p = lane_prices(marks, finals, g);
-    let v = worths(mark_at(marks, i).code, p);
+    let v = values_or_zero(mark_at(marks, i).code, p);
     write_group(g, v, a, done);
 }
 
 // The change in value of one contract between two prices. (`change` has the same two calls for itself, so that the compiler takes
 // them into the loop over the marks.)
 pub(crate) fn change_between(code: Code, last: u32, previous: u32) -> i64
-    ensures { λ r. ⌜ r ≡ pos (worthOf code last) -ℤ pos (worthOf code previous) ⌝ }
+    ensures { λ r. ⌜ r ≡ pos (valueOrZero code last) -ℤ pos (valueOrZero code previous) ⌝ }
 {
-    difference(worth(code, last), worth(code, previous))
+    difference(value_or_zero(code, last), value_or_zero(code, previous))
 }
 
 // The change in value of one mark.
@@ -164,8 +164,8 @@ fn change(marks: &[u8], finals: &[u32; DayFile::MAX_MARKS], i: usize) -> i64
     ensures { λ r. ⌜ r ≡ changeOf (marksIn (now (marks .entry))) (lastOf (now (finals .entry))) i ⌝ }
 {
     let m = mark_at(marks, i);
-    let last = worth(m.code, finals[i]);
-    let previous = worth(m.code, m.previous);
+    let last = value_or_zero(m.code, finals[i]);
+    let previous = value_or_zero(m.code, m.previous);
     difference(last, previous)
 }
 

@@ -110,7 +110,7 @@ pub fn mark(file: &[u8], m: usize) -> MarkPrices
 {
     match judge(file) {
         Judged::Refused { number, index } => MarkPrices::Refused { number, index },
-        Judged::Sound { counts, resent: _ } => prices(
+        Judged::Passed { counts, resent: _ } => prices(
             counts.marks_in(file),
             counts.corrections_in(file),
             m,

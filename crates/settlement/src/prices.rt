@@ -9,11 +9,11 @@ ghost use mathlib.Core.Bool.{cond};
 ghost use Prim.Native.Nat.{_≤_};
 ghost use lib.Dec.{leb};
 ghost use lib.ListN.{length};
-ghost use Rattle.numbers.specs.Folds.{Holds};
+ghost use Rattle.numbers.specs.Folds.{Filled};
 ghost use Rattle.dayfile.specs.Limits.{fileLimits};
 ghost use Rattle.dayfile.specs.Records.{marksIn, correctionsIn};
 ghost use Rattle.settlement.specs.Prices.{finalOf};
-ghost use Rattle.settlement.specs.Steps.{todayOf};
+ghost use Rattle.settlement.specs.SettlingSteps.{todayOf};
 
 // Whether a correction takes the place of an earlier one with this number.
 fn replaces(c: Correction, number: u32) -> bool
@@ -32,7 +32,7 @@ fn pick(first: bool, x: u32, y: u32) -> u32
 fn todays(marks: &[u8], n: usize, price: &mut [u32; DayFile::MAX_MARKS])
     requires { ⌜ (n ≤ fileLimits .marks) × (length (now price) ≡ fileLimits .marks) ⌝ }
     ensures { λ _. ⌜ (length (now (price .exit)) ≡ fileLimits .marks)
-        × Holds 0 (todayOf (marksIn (now (marks .entry)))) n (now (price .exit)) ⌝ }
+        × Filled 0 (todayOf (marksIn (now (marks .entry)))) n (now (price .exit)) ⌝ }
 {
     let mut i = 0;
     while i < n {
@@ -50,7 +50,7 @@ pub(crate) fn finals(
     price: &mut [u32; DayFile::MAX_MARKS],
 )
     requires { ⌜ (n ≤ fileLimits .marks) × (length (now price) ≡ fileLimits .marks) ⌝ }
-    ensures { λ _. ⌜ Holds 0 (finalOf (marksIn (now (marks .entry))) (correctionsIn (now (corrections .entry)))) n (now (price .exit)) ⌝ }
+    ensures { λ _. ⌜ Filled 0 (finalOf (marksIn (now (marks .entry))) (correctionsIn (now (corrections .entry)))) n (now (price .exit)) ⌝ }
 {
     todays(marks, n, price);
     let count = correction_count(corrections);

@@ -13,7 +13,7 @@ ghost use lib.ListN.{length};
 ghost use Rattle.dayfile.specs.Limits.{fileLimits};
 ghost use Rattle.dayfile.specs.Records.{positionsIn, listsOf};
 ghost use Rattle.settlement.specs.Settling.{said, accept, roomPlan, answerOf, amountsAfter};
-ghost use Rattle.settlement.specs.Steps.{Passing, Settles};
+ghost use Rattle.settlement.specs.SettlingSteps.{ListsPassWith, Settles};
 
 // The answer to a day file: how many positions, the totals and the resent count; or the number of a check and the index of a record.
 pub enum Settlement {
@@ -37,7 +37,7 @@ fn settle_accepted(
     resent: usize,
     amounts: &mut [i64],
 ) -> Settlement
-    requires { ⌜ Passing (listsOf (now marks) (now corrections) (now positions)) resent
+    requires { ⌜ ListsPassWith (listsOf (now marks) (now corrections) (now positions)) resent
         × (length (positionsIn (now positions)) ≤ length (now amounts)) ⌝ }
     ensures { λ r. ⌜ Settles (accept (listsOf (now (marks .entry)) (now (corrections .entry)) (now (positions .entry))))
         r (now (amounts .entry)) (now (amounts .exit)) ⌝ }
@@ -63,7 +63,7 @@ fn settle_records(
     resent: usize,
     amounts: &mut [i64],
 ) -> Settlement
-    requires { ⌜ Passing (listsOf (now marks) (now corrections) (now positions)) resent ⌝ }
+    requires { ⌜ ListsPassWith (listsOf (now marks) (now corrections) (now positions)) resent ⌝ }
     ensures { λ r. ⌜ Settles
         (roomPlan (listsOf (now (marks .entry)) (now (corrections .entry)) (now (positions .entry))) (length (now (amounts .entry))))
         r (now (amounts .entry)) (now (amounts .exit)) ⌝ }
@@ -84,7 +84,7 @@ pub fn settle(file: &[u8], amounts: &mut [i64]) -> Settlement
 {
     match judge(file) {
         Judged::Refused { number, index } => Settlement::Refused { number, index },
-        Judged::Sound { counts, resent } => settle_records(
+        Judged::Passed { counts, resent } => settle_records(
             counts.marks_in(file),
             counts.corrections_in(file),
             counts.positions_in(file),

@@ -15,6 +15,6 @@ Moves step.End part = Unit {0}
 Moves step.Failed part = Unit {0}
 
 -- the count is within the buffer
-abbrev pub Holds : Answer → List ℕ → Type 0
-Holds (input.Bytes n) file = (n ≤ length file) × (n ≡ length (take n file))
-Holds input.Failed file = Unit {0}
+abbrev pub InBuffer : Answer → List ℕ → Type 0
+InBuffer (input.Bytes n) file = (n ≤ length file) × (n ≡ length (take n file))
+InBuffer input.Failed file = Unit {0}

@@ -1,5 +1,5 @@
 // Standard input, read into a lent buffer.
-ghost use Rattle.sheet.specs.Input.{Moves, Holds};
+ghost use Rattle.sheet.specs.Input.{Moves, InBuffer};
 use libc::STDIN_FILENO;
 
 // What one read brings: some bytes, the end of the input, or a failure.
@@ -31,7 +31,7 @@ pub enum Input {
 
 // Reads until the buffer is full or the input ends. A read that fails is an answer of its own.
 pub(crate) fn read_file(file: &mut [u8]) -> Input
-    ensures { λ r. ⌜ Holds r (now (file .exit)) ⌝ }
+    ensures { λ r. ⌜ InBuffer r (now (file .exit)) ⌝ }
 {
     let mut n = 0;
     while n < file.len() {

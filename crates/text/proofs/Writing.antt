@@ -12,7 +12,7 @@ use lib.Seq.{sets, sets-eq, drop-at, drop-drop, take-append-le, drop-append-le, 
 use borrow.Rule.Slice.PartMut.{midOf, putMid, same-len-mid}
 use Rattle.text.specs.Writing.{over, Wrote, Writes, fitted, texts}
 
--- ---- a text and what is written behind it
+-- ---- a text and what is written after it
 
 -- what is written into the part from k on, to the buffer's end, and covers what of s stands there
 then-over : (s t out : List ℕ) (k : ℕ) {now mid : List ℕ} → k ≤ length s → length s ≤ k + length t → now ≡ over s out → mid ≡ over t (midOf k (length now - k) now)
@@ -46,12 +46,12 @@ wrote-over {s} {t} {out} {now} {mid} {a} {b} k g h p q =
       written = then-over s t out k (omega (arith, p .count)) (omega (arith, p .count)) (p .written) (q .written);
     }
 
--- a text, and another written into the part that is lent behind it, are the one text of both
+-- a text, and another written into the part that is lent after it, are the one text of both
 pub wrote-then : {s t out now mid : List ℕ} {a b : ℕ} → Wrote s a out now → Wrote t b (midOf a (length now - a) now) mid
     → Wrote (s ++ t) (a + b) out (putMid a (length now - a) now mid)
 wrote-then {s} {a = a} p q = rw (take-all a s (omega (arith, p .count))) at (wrote-over a (omega arith) (omega arith) p q)
 
--- a byte stored behind a text
+-- a byte stored after a text
 pub wrote-then-byte : {s out now : List ℕ} {a : ℕ} (b : ℕ) → length s < length out → Wrote s a out now → Wrote (s ++ (b ∷ [])) (a + 1) out (set now a b)
 wrote-then-byte {s} {out} {now} {a} b h p =
     let r : List ℕ = drop (suc (length s)) out in
@@ -96,7 +96,7 @@ wrote-none out = record { within = omega arith; count = refl; written = refl }
 pub wrote-byte : (b : ℕ) (out : List ℕ) → 0 < length out → Wrote (b ∷ []) 1 out (set out 0 b)
 wrote-byte b out h = wrote-then-byte b h (wrote-none out)
 
--- a text, with what stands behind it up to a place
+-- a text, with what stands after it up to a place
 pub wrote-padded : {s now : List ℕ} {n : ℕ} (p q : List ℕ) → length s ≤ length p → Wrote s n (p ++ q) now → Wrote (over s p) (length p) (p ++ q) now
 wrote-padded {s} p q h w =
     let l : length p ≡ length (over s p) = simp (length-append, length-drop) (omega arith) in
@@ -155,7 +155,7 @@ writes-over {s} {t} {out} {now} {mid} k g h p q =
           (q .whole (omega (arith, m, p .count, length-take-le k s (omega (arith, p .count)), simp length-append at z)));
     }
 
--- a text, and another written into the part that is lent behind it
+-- a text, and another written into the part that is lent after it
 pub writes-then : {s t out now mid : List ℕ} {a b : ℕ} → Writes s a out now → Writes t b (midOf a (length now - a) now) mid
     → Writes (s ++ t) (a + b) out (putMid a (length now - a) now mid)
 writes-then {s} {t} {out} {now} {mid} {a} {b} p q =
@@ -185,7 +185,7 @@ copied s out {i} f e h k = let q : i ≡ length s = le-antisymm h k in record { 
 pub length-copied : (s out : List ℕ) (i : ℕ) → i ≤ length s → length s ≤ length out → length (take i s ++ drop i out) ≡ length out
 length-copied s out i h k = simp (length-append, length-drop) (omega (arith, length-take-le i s h))
 
--- ---- several texts, one behind the other
+-- ---- several texts, one after the other
 
 texts-more : (f : ℕ → List ℕ) (i : ℕ) → texts f (i + 1) ≡ texts f i ++ f i
 unfolding texts

@@ -27,7 +27,7 @@ pub record Writes (s : List ℕ) (n : ℕ) (before after : List ℕ) : Type 0 wh
   pub kept : length after ≡ length before
   pub whole : length s ≤ length before → Wrote s n before after
 
--- f 0 .. f (n - 1), one behind the other
+-- f 0 .. f (n - 1), one after the other
 unfoldable pub texts : (ℕ → List ℕ) → ℕ → List ℕ
 texts f zero = []
 texts f (suc n) = texts f n ++ f n

@@ -50,7 +50,7 @@ pub fn bracket(code: [u8; 2], price: u32) -> Result<u64, Refusal> {
     unsafe { sys::citronreef_bracket(code[0], code[1], price) }.answer()
 }
 
-/// Settles a day file. The amounts of an accepted file stand in the first places of `amounts`, in cents; the places behind
+/// Settles a day file. The amounts of an accepted file stand in the first places of `amounts`, in cents; the places after
 /// them, and all places after a refusal, are left as they were.
 ///
 /// ```

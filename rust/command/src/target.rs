@@ -16,7 +16,7 @@ pub enum Target {
 /// The folders in which the system names the descriptors of the process itself.
 const DESCRIPTORS: [&str; 3] = ["/dev/fd", "/proc/self/fd", "/proc/thread-self/fd"];
 
-/// More links than this, one behind the other, are a ring.
+/// More links than this, one after the other, are a ring.
 const MOST_LINKS: usize = 40;
 
 impl Target {

@@ -1,4 +1,4 @@
-//! Settles a million small files with many clashes, and compares number, index, totals, resent count, amounts and the places behind
+//! Settles a million small files with many clashes, and compares number, index, totals, resent count, amounts and the places after
 //! them with the independent build's pair loops.
 //!
 //!   cargo run --release --example clashes

@@ -23,7 +23,7 @@ fn write_positions(sheet: &mut String, day: &Day, amounts: &[i64]) -> std::fmt::
     Ok(())
 }
 
-/// Settles a day file into the amounts, and puts what the sheet program prints for it behind the text.
+/// Settles a day file into the amounts, and puts what the sheet program prints for it after the text.
 pub fn write_sheet(sheet: &mut String, file: &[u8], amounts: &mut [i64]) -> std::fmt::Result {
     let settled = match plain::settle(file, amounts) {
         Ok(settled) => settled,

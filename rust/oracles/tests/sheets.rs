@@ -10,7 +10,7 @@ const UNTOUCHED: u8 = 0xEE;
 const GUARDS: usize = 8;
 const GUARD: i64 = i64::MIN + 77;
 
-/// The library's sheet, and the amounts. What stands around both slices, and behind the sheet, must stay as it was.
+/// The library's sheet, and the amounts. What stands around both slices, and after the sheet, must stay as it was.
 fn written(file: &[u8], places: usize) -> (Vec<u8>, Vec<i64>) {
     let mut out = vec![UNTOUCHED; SHEET_SIZE + 2 * GUARDS];
     let mut amounts = vec![GUARD; places + 2 * GUARDS];

@@ -34,7 +34,7 @@ fn length_text(file: &[u8]) -> String {
     }
 }
 
-/// What check 1, 2 or 3 looks at, and where the text has it. Behind the first two nothing is looked at any more.
+/// What check 1, 2 or 3 looks at, and where the text has it. After the first two nothing is looked at any more.
 pub fn header_text(file: &[u8], check: u32, lines: Option<&Lines>) -> String {
     let text = match check {
         1 => format!("  The file has {} bytes, and its header alone has {HEADER_SIZE}.\n", file.len()),

@@ -29,7 +29,7 @@ pub struct Draft {
     pub marks: Vec<Mark>,
     pub corrections: Vec<Naming<Correction>>,
     pub positions: Vec<Naming<Position>>,
-    /// Bytes behind the last record.
+    /// Bytes after the last record.
     pub rest: Vec<u8>,
     pub lines: Lines,
 }

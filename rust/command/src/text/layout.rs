@@ -7,14 +7,14 @@ use citronreef::records::{
 const SECTIONS: [(&str, usize); 3] = [("mark", MAX_MARKS), ("correction", MAX_CORRECTIONS), ("position", MAX_POSITIONS)];
 
 /// The parts of a file that has a header. Each section has the records that the header counts and that stand whole in the file,
-/// one section behind the other, whatever the offsets say.
+/// one section after the other, whatever the offsets say.
 pub struct Parts<'a> {
     length: usize,
     pub header: [usize; 6],
     pub marks: Vec<Mark>,
     pub corrections: Vec<Correction>,
     pub positions: Vec<Position>,
-    /// What is behind the last whole record.
+    /// What is after the last whole record.
     pub rest: &'a [u8],
 }
 
@@ -74,7 +74,7 @@ pub fn counted(count: usize, what: &str) -> String {
     format!("{count} {what}{}", if count == 1 { "" } else { "s" })
 }
 
-/// The records of a section that stand whole at the start of some bytes, and the bytes behind them.
+/// The records of a section that stand whole at the start of some bytes, and the bytes after them.
 fn section<T>(bytes: &[u8], count: usize, read: fn(&[u8]) -> T) -> (Vec<T>, &[u8]) {
     let whole = count.min(bytes.len() / RECORD_SIZE);
     let (records, rest) = bytes.split_at(RECORD_SIZE * whole);

@@ -19,14 +19,14 @@ impl Lines {
     /// The line that holds the record at this byte of the file, whatever kind of record the header makes of it. None for bytes
     /// that are of no one line.
     pub fn at(&self, byte: usize) -> Option<usize> {
-        let behind = byte.checked_sub(if self.headless { 0 } else { HEADER_SIZE })?;
+        let after = byte.checked_sub(if self.headless { 0 } else { HEADER_SIZE })?;
         let records = [&self.marks, &self.corrections, &self.positions];
         let count: usize = records.iter().map(|lines| lines.len()).sum();
-        if let Some(further) = behind.checked_sub(RECORD_SIZE * count) {
+        if let Some(further) = after.checked_sub(RECORD_SIZE * count) {
             return self.further(further);
         }
         let mut lines = records.into_iter().flatten().copied();
-        (behind % RECORD_SIZE == 0).then(|| lines.nth(behind / RECORD_SIZE)).flatten()
+        (after % RECORD_SIZE == 0).then(|| lines.nth(after / RECORD_SIZE)).flatten()
     }
 
     /// The line of one of the further bytes.
@@ -64,7 +64,7 @@ mod tests {
         ] {
             assert_eq!(lines.at(byte), line, "byte {byte}");
             let headless = Lines { headless: true, ..lines.clone() };
-            assert_eq!(byte.checked_sub(24).and_then(|byte| headless.at(byte)), line, "byte {byte} behind a header");
+            assert_eq!(byte.checked_sub(24).and_then(|byte| headless.at(byte)), line, "byte {byte} after a header");
         }
         assert_eq!(Lines::default().at(24), None);
     }

@@ -12,7 +12,7 @@ fn guard(place: usize) -> i64 {
     i64::MIN + 7_919 * place as i64
 }
 
-/// The answer to a file, and what its places hold afterwards. Guards before and behind the slice must stay, and so must
+/// The answer to a file, and what its places hold afterwards. Guards before and after the slice must stay, and so must
 /// everything that the answer gives no leave to write: all places after a refusal, those from N on after a settlement.
 pub fn settled_into(settle: Settle, file: &[u8], places: usize) -> (Result<Settled, Refusal>, Vec<i64>) {
     let mut memory: Vec<i64> = (0..places + 2 * GUARDS).map(guard).collect();

@@ -1,7 +1,7 @@
 -- By whether checks 1 and 2 give the counts: without them the header alone is looked at, with them the header and then the records.
 -- What is decided where check k alone is looked at is what check k finds.
 use mathlib.Core.Path.{sym, _∙_}
-use Rattle.checks.proofs.Found.{found-in-header, counted-small, found-in-file}
+use Rattle.checks.proofs.Found.{found-in-header, counted-within, found-in-file}
 use borrow.Author.Needs.{needs}
 use Rattle.checks.proofs.finding.find.Statement.{statement}
 use Rattle.checks.proofs.finding.find.Tie as tie
@@ -9,7 +9,7 @@ use Rattle.checks.proofs.finding.find.Tie as tie
 decide-one-requires : tie.Need-decide-one-requires
 decide-one-requires c κs =
     let s = c .before .before .before .before .before .before in
-    counted-small _ (sym (s .counted .ensures) ∙ c .before .before .before .before .d .given .1) (c .before .before .marks-in .ensures) (c .before .corrections-in .ensures) (c .positions-in .ensures)
+    counted-within _ (sym (s .counted .ensures) ∙ c .before .before .before .before .d .given .1) (c .before .before .marks-in .ensures) (c .before .corrections-in .ensures) (c .positions-in .ensures)
 
 returns : tie.Need-returns
 returns c =

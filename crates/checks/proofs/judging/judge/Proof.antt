@@ -1,6 +1,6 @@
 -- By whether checks 1 to 3 open the file: their refusal stands before all others, and where they find nothing the records decide.
 use mathlib.Core.Path.{sym, _∙_}
-use Rattle.checks.proofs.Judgements.{opened-small, judged-refused, judged-opened}
+use Rattle.checks.proofs.Judgements.{opened-within, judged-refused, judged-opened}
 use borrow.Author.Needs.{needs}
 use Rattle.checks.proofs.judging.judge.Statement.{statement}
 use Rattle.checks.proofs.judging.judge.Tie as tie
@@ -8,7 +8,7 @@ use Rattle.checks.proofs.judging.judge.Tie as tie
 judge-records-requires : tie.Need-judge-records-requires
 judge-records-requires c κs =
     let s = c .before .before .before .before .before .before in
-    opened-small (s .before .before .args .file .now) (sym (s .open-file .ensures) ∙ c .before .before .before .before .d .given .1)
+    opened-within (s .before .before .args .file .now) (sym (s .open-file .ensures) ∙ c .before .before .before .before .d .given .1)
     (c .before .before .marks-in .ensures) (c .before .corrections-in .ensures) (c .positions-in .ensures)
 
 returns : tie.Need-returns

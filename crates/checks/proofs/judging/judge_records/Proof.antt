@@ -3,7 +3,7 @@ use mathlib.Core.Path.{refl, sym, ap, _∙_}
 use Rattle.numbers.proofs.Checks.{decision-all}
 use Rattle.dayfile.specs.Records.{listsOf}
 use Rattle.checks.specs.Judging.{recordChecks}
-use Rattle.checks.specs.declared.judging.Judged.the-variants.{Sound}
+use Rattle.checks.specs.declared.judging.Judged.the-variants.{Passed}
 use Rattle.checks.proofs.Judgements.{judged-by}
 use borrow.Author.Needs.{needs}
 use Rattle.checks.proofs.judging.judge_records.Statement.{statement}
@@ -20,7 +20,7 @@ returns-2 c =
     let s = c .before .before in
     let a = s .before .before .before .before .args in
     judged-by _ _ (s .decide-records .ensures .0 ∙ decision-all (recordChecks (listsOf (a .marks .now) (a .corrections .now) (a .positions .now))))
-    (c .enum-told .given .1) (ap (Sound (a .counts)) (s .decide-records .ensures .1))
+    (c .enum-told .given .1) (ap (Passed (a .counts)) (s .decide-records .ensures .1))
 
 pub judge-records-spec : {M : Type 1} → statement M
 judge-records-spec =

@@ -10,7 +10,7 @@ returns : tie.Need-returns
 returns c =
     let s = c .before .before .before .before in
     let m = s .before .args .m in
-    by-lookup (faultsIn m) _ (s .lookup .ensures) (c .before .before .q .given .1) (c .faults-by .ensures) ∙ faults-found m
+    by-lookup (faultsIn m) _ (s .lookup .ensures) (c .before .before .product .given .1) (c .faults-by .ensures) ∙ faults-found m
 
 returns-2 : tie.Need-returns-2
 returns-2 c =

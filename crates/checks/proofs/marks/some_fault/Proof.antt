@@ -3,13 +3,13 @@ use Prim.Native.Nat.{_≤_, _<_, _-_}
 use mathlib.Core.Path.{_≡_, ap, _∙_}
 use native.Mathlib.Omega.{arith}
 use lib.ListN.{length, length-set}
-use Rattle.numbers.specs.Folds.{some, Holds}
+use Rattle.numbers.specs.Folds.{some, Filled}
 use Rattle.dayfile.specs.Limits.{fileLimits}
 use Rattle.dayfile.specs.Records.{marksIn, markAt}
 use Rattle.checks.specs.Faults.{markFaults, anyMarkFault, tickAt}
 use Rattle.checks.specs.declared.marks.MarkFaults.{MarkFaults}
 use Rattle.numbers.proofs.Chain.{at-end}
-use Rattle.numbers.proofs.Held.{holds-none, holds-more}
+use Rattle.numbers.proofs.Filled.{filled-none, filled-more}
 use Rattle.numbers.proofs.Searches.{some-start, some-next}
 use borrow.Author.Needs.{needs}
 use Rattle.checks.proofs.marks.some_fault.Statement.{statement}
@@ -19,13 +19,13 @@ abbrev Inv-loop : tie.InvT-loop
 Inv-loop marks ticks₀ n bad₀ i₀ ticks bad i =
     ((i ≤ n) × (length ticks ≡ fileLimits .marks))
     × (bad ≡ some (λ k. anyMarkFault (markFaults (markAt (marksIn marks) k))) i)
-    × Holds 0 (tickAt (marksIn marks)) i ticks
+    × Filled 0 (tickAt (marksIn marks)) i ticks
 
 abbrev μ-loop : tie.MeasureT-loop
 μ-loop marks ticks₀ n bad₀ i₀ ticks bad i = n - i
 
 loop-holds : tie.Need-loop-holds Inv-loop μ-loop
-loop-holds c = ((search needs, c .before .before .pre .1), some-start _, holds-none)
+loop-holds c = ((search needs, c .before .before .pre .1), some-start _, filled-none)
 
 mul-ticks : tie.Need-mul-ticks Inv-loop μ-loop
 mul-ticks c =
@@ -59,7 +59,7 @@ loop-again c =
     let h : at .i < length (at .ticks) = omega (arith, element-write-ticks c, at .inv .0 .1) in (
       (omega arith, simp length-set (at .inv .0 .1)),
       some-next (λ k. anyMarkFault (markFaults (markAt ms k))) (at .i) (at .inv .1) (c .any-fault .ensures ∙ ap anyMarkFault l),
-      holds-more h (ap (λ (x : MarkFaults). x .tick) l) (at .inv .2),
+      filled-more h (ap (λ (x : MarkFaults). x .tick) l) (at .inv .2),
     )
 
 returns : tie.Need-returns Inv-loop μ-loop

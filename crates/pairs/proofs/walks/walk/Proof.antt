@@ -1,5 +1,5 @@
 -- At each step a walk from this place on completes the walk of record i from its root, and the place is below roots + 2 * i.
--- The places below a record stand behind its own, so that the walk goes up and ends.
+-- The places below a record stand after its own, so that the walk goes up and ends.
 use Prim.Native.Nat.{suc, _+_, _*_, _%_, _-_, _<_, _≤_}
 use mathlib.Core.Path.{_≡_, sym, _∙_}
 use native.Mathlib.Omega.{arith}

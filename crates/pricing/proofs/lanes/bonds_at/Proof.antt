@@ -5,7 +5,7 @@ use native.Mathlib.Omega.{arith}
 use lib.ListN.{getD}
 use Rattle.pricing.specs.Rungs.{noRung}
 use Rattle.pricing.specs.Calls.{lanes}
-use Rattle.numbers.proofs.Held.{Done, none-done, one-more, all-done}
+use Rattle.numbers.proofs.Filled.{Done, none-done, one-more, all-done}
 use Rattle.pricing.proofs.SideBySide.{bondOf, bond-low, bonds-are, rungs-low}
 use borrow.Author.Needs.{needs}
 use Rattle.pricing.proofs.lanes.bonds_at.Statement.{statement}

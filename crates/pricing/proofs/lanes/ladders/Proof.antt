@@ -5,7 +5,7 @@ use mathlib.Core.List.{List}
 use native.Mathlib.Nat.{le-trans, le-antisymm}
 use native.Mathlib.Omega.{arith}
 use lib.ListN.{getD}
-use Rattle.numbers.specs.Folds.{Holds}
+use Rattle.numbers.specs.Folds.{Filled}
 use Rattle.pricing.specs.Rungs.{rungAt, noRung}
 use Rattle.pricing.specs.Calls.{lanes}
 use Rattle.pricing.proofs.SideBySide.{all-low, all-next}
@@ -14,7 +14,7 @@ use Rattle.pricing.proofs.lanes.ladders.Statement.{statement}
 use Rattle.pricing.proofs.lanes.ladders.Tie as tie
 
 abbrev Inv-loop : tie.InvT-loop
-Inv-loop halves l₀ k₀ l k = (1 ≤ k) × (k ≤ halves) × ((p : List ℕ) → Holds noRung (λ i. rungAt (getD p i 0) 1) lanes l₀ → Holds noRung (λ i. rungAt (getD p i 0) k) lanes l)
+Inv-loop halves l₀ k₀ l k = (1 ≤ k) × (k ≤ halves) × ((p : List ℕ) → Filled noRung (λ i. rungAt (getD p i 0) 1) lanes l₀ → Filled noRung (λ i. rungAt (getD p i 0) k) lanes l)
 
 abbrev μ-loop : tie.MeasureT-loop
 μ-loop halves l₀ k₀ l k = halves - k

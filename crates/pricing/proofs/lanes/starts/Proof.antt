@@ -4,7 +4,7 @@ use mathlib.Core.Path.{refl}
 use lib.ListN.{getD}
 use Rattle.pricing.specs.Rungs.{rungAt, noRung}
 use Rattle.pricing.specs.Calls.{lanes}
-use Rattle.numbers.proofs.Held.{Done, none-done, one-more, all-done}
+use Rattle.numbers.proofs.Filled.{Done, none-done, one-more, all-done}
 use borrow.Author.Needs.{needs}
 use Rattle.pricing.proofs.lanes.starts.Statement.{statement}
 use Rattle.pricing.proofs.lanes.starts.Tie as tie

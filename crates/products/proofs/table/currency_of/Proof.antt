@@ -8,7 +8,7 @@ use Rattle.products.proofs.table.currency_of.Tie as tie
 
 returns : tie.Need-returns
 unfolding currencyOf
-returns c = by-lookup currencyIn _ (c .before .before .before .lookup .ensures) (c .before .q .given .1) refl
+returns c = by-lookup currencyIn _ (c .before .before .before .lookup .ensures) (c .before .product .given .1) refl
 
 returns-2 : tie.Need-returns-2
 unfolding currencyOf

@@ -8,7 +8,7 @@ use Rattle.products.proofs.table.is_bond.Tie as tie
 
 returns : tie.Need-returns
 unfolding isBond
-returns c = by-lookup bondIn _ (c .before .before .before .before .lookup .ensures) (c .before .before .q .given .1) (c .bond-terms .ensures)
+returns c = by-lookup bondIn _ (c .before .before .before .before .lookup .ensures) (c .before .before .product .given .1) (c .bond-terms .ensures)
 
 returns-2 : tie.Need-returns-2
 unfolding isBond

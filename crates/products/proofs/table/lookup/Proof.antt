@@ -5,7 +5,7 @@ use borrow.Author.Needs.{needs}
 use native.Mathlib.Omega.{arith}
 use lib.ListN.{drop, length}
 use Rattle.products.specs.declared.table.Code.{Code}
-use Rattle.products.specs.declared.table.Found.the-variants.{Missing}
+use Rattle.products.specs.declared.table.NamedProduct.the-variants.{Missing}
 use Rattle.products.specs.Products.{products, findIn, find}
 use Rattle.products.proofs.Finding.{find-here, find-next}
 use Rattle.products.proofs.table.lookup.Statement.{statement}

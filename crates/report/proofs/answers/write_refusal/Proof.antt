@@ -1,4 +1,4 @@
--- The two labelled numbers, one behind the other, are the fields of the refusal's line (`refusal-line`).
+-- The two labelled numbers, one after the other, are the fields of the refusal's line (`refusal-line`).
 use Rattle.report.proofs.Composing.{refusal-line}
 use Rattle.text.proofs.Writing.{writes-then, writes-as}
 use borrow.Author.Needs.{needs}

@@ -1,4 +1,4 @@
--- The sign and the figures taken from the table of pairs are the signed decimal (`signed-by-pairs`), and the byte stands behind them.
+-- The sign and the figures taken from the table of pairs are the signed decimal (`signed-by-pairs`), and the byte stands after them.
 use mir.Facts.{toZ-ofZ}
 use mir.Syntax.{w64}
 use mathlib.Core.List.{[], _∷_}

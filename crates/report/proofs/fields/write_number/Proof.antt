@@ -1,4 +1,4 @@
--- The figures taken from the table of pairs are the number's decimal digits (`by-pairs`), and the byte stands behind them.
+-- The figures taken from the table of pairs are the number's decimal digits (`by-pairs`), and the byte stands after them.
 use mathlib.Core.List.{[], _∷_}
 use Rattle.text.specs.Decimal.{decimal}
 use Rattle.text.proofs.Table.{by-pairs}

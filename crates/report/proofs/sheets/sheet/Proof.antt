@@ -1,6 +1,6 @@
 -- By the room: a short buffer stays as it is. Else the settlement has carried out the plan, and its lines and its answer, which always fit,
 -- are the sheet.
-use Rattle.report.proofs.Whole.{sheet-no-room, sheet-written}
+use Rattle.report.proofs.WholeSheet.{sheet-no-room, sheet-written}
 use native.Mathlib.Omega.{arith}
 use Rattle.report.proofs.Plans.{paid}
 use borrow.Author.Needs.{needs}

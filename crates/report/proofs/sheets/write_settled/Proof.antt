@@ -2,7 +2,7 @@
 -- (`settled-lines`).
 use mathlib.Core.Path.{sym, _∙_}
 use Rattle.dayfile.proofs.Opening.{laid-out}
-use Rattle.dayfile.proofs.Parts.{small}
+use Rattle.dayfile.proofs.Parts.{lists-within}
 use Rattle.text.proofs.Writing.{writes-as, writes-none}
 use Rattle.report.proofs.Plans.{refused-lines, settled-lines, lines-by}
 use borrow.Author.Needs.{needs}
@@ -18,7 +18,7 @@ write-positions-requires c κs =
     let m = c .before .before .marks-in .ensures in
     let p = c .before .positions-in .ensures in
     let l = settled-lines (s .args .file .now) (s .args .amounts .now) o e (s .pre .1) in
-    (s .pre .0, l .room, rw m (small (s .args .file .now) d (laid-out (s .args .file .now) (sym o ∙ e) .limited) .marks), rw (m, p) (l .named))
+    (s .pre .0, l .room, rw m (lists-within (s .args .file .now) d (laid-out (s .args .file .now) (sym o ∙ e) .counts-within) .marks), rw (m, p) (l .named))
 
 returns : tie.Need-returns
 returns c =

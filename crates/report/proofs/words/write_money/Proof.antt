@@ -1,7 +1,7 @@
 use native.Mathlib.Nat.{add-sub-cancel-left}
 use mir.Facts.{toZ-ofZ}
 use mir.Syntax.{w64}
-use Rattle.report.specs.Steps.{endIn}
+use Rattle.report.specs.Writers.{endIn}
 use Rattle.text.proofs.Writing.{fitted-writes, writes-then}
 use borrow.Author.Needs.{needs}
 use Rattle.report.proofs.words.write_money.Statement.{statement}

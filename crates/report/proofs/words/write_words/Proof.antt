@@ -1,4 +1,4 @@
--- At mark i the words of the first i marks are written, one behind the other, where there is room for them.
+-- At mark i the words of the first i marks are written, one after the other, where there is room for them.
 use Prim.Native.Nat.{_≤_, _-_}
 use native.Mathlib.Omega.{arith}
 use mathlib.Core.Path.{_≡_}
@@ -6,7 +6,7 @@ use lib.ListN.{length}
 use Rattle.dayfile.specs.Records.{marksIn}
 use Rattle.text.specs.Writing.{Writes, texts}
 use Rattle.text.proofs.Writing.{fitted-writes, writes-none, writes-more}
-use Rattle.report.specs.Steps.{wordsAt}
+use Rattle.report.specs.Writers.{wordsAt}
 use borrow.Author.Needs.{needs}
 use Rattle.report.proofs.words.write_words.Statement.{statement}
 use Rattle.report.proofs.words.write_words.Tie as tie

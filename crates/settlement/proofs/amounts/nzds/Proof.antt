@@ -4,26 +4,26 @@ use mathlib.Core.Path.{_≡_, refl}
 use mathlib.Core.Bool.{false}
 use native.Mathlib.Omega.{arith}
 use lib.ListN.{length, length-set}
-use Rattle.numbers.specs.Folds.{Holds}
-use Rattle.numbers.proofs.Held.{holds-none, holds-more}
+use Rattle.numbers.specs.Folds.{Filled}
+use Rattle.numbers.proofs.Filled.{filled-none, filled-more}
 use Rattle.numbers.proofs.Chain.{by-one}
 use Rattle.products.specs.Products.{currencyOf}
 use Rattle.dayfile.specs.Limits.{fileLimits}
 use Rattle.dayfile.specs.Records.{marksIn}
 use Rattle.dayfile.specs.declared.records.Mark.{Mark}
-use Rattle.settlement.specs.Steps.{isNzd, nzdAt}
+use Rattle.settlement.specs.SettlingSteps.{isNzd, nzdAt}
 use borrow.Author.Needs.{needs}
 use Rattle.settlement.proofs.amounts.nzds.Statement.{statement}
 use Rattle.settlement.proofs.amounts.nzds.Tie as tie
 
 abbrev Inv-loop : tie.InvT-loop
-Inv-loop marks n r₀ m₀ r m = (m ≤ n) × (length r ≡ fileLimits .marks) × Holds false (nzdAt (marksIn marks)) m r
+Inv-loop marks n r₀ m₀ r m = (m ≤ n) × (length r ≡ fileLimits .marks) × Filled false (nzdAt (marksIn marks)) m r
 
 abbrev μ-loop : tie.MeasureT-loop
 μ-loop marks n r₀ m₀ r m = n - m
 
 loop-holds : tie.Need-loop-holds Inv-loop μ-loop
-loop-holds c = (omega arith, refl, holds-none)
+loop-holds c = (omega arith, refl, filled-none)
 
 array-write-r : tie.Need-array-write-r Inv-loop μ-loop
 array-write-r c = omega (arith, c .before .before .before .before .before .mark-count .ensures, c .before .before .before .before .before .before .before .pre)
@@ -40,7 +40,7 @@ loop-again c =
     let few = array-write-r c in (
       omega arith,
       simp length-set (at .inv .1),
-      holds-more (rw (at .inv .1) few)
+      filled-more (rw (at .inv .1) few)
           (by-one isNzd (c .is-nzd .ensures) (by-one (λ (m : Mark). currencyOf (m .code)) (c .before .currency-of .ensures) (c .before .before .mark-at .ensures))) (at .inv .2),
     )
 

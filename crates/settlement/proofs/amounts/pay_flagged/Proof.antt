@@ -13,7 +13,7 @@ use Rattle.dayfile.specs.Records.{positionsIn}
 use Rattle.dayfile.specs.declared.records.Position.{Position}
 use Rattle.products.specs.declared.table.Currency.the-variants.{Aud, Nzd}
 use Rattle.settlement.specs.Settling.{amountOf}
-use Rattle.settlement.specs.Steps.{flaggedShare}
+use Rattle.settlement.specs.SettlingSteps.{flaggedShare}
 use Rattle.numbers.proofs.Chain.{at-end}
 use Rattle.numbers.proofs.Signed.{back}
 use Rattle.numbers.proofs.Tables.{filled, length-front}

@@ -4,18 +4,18 @@ use lib.IntN.{pos, _-ℤ_}
 use Rattle.numbers.proofs.Chain.{by-two}
 use mathlib.Core.Path.{_∙_}
 use Rattle.numbers.proofs.Signed.{back}
-use Rattle.settlement.proofs.Pricing.{by-worth}
+use Rattle.settlement.proofs.Pricing.{by-value-or-zero}
 use borrow.Author.Needs.{needs}
 use Rattle.settlement.proofs.groups.change_between.Statement.{statement}
 use Rattle.settlement.proofs.groups.change_between.Tie as tie
 
 difference-requires : tie.Need-difference-requires
-difference-requires c κs = (by-worth _ _ (c .before .worth .ensures) .1, by-worth _ _ (c .worth2 .ensures) .1)
+difference-requires c κs = (by-value-or-zero _ _ (c .before .value-or-zero .ensures) .1, by-value-or-zero _ _ (c .value-or-zero2 .ensures) .1)
 
 returns : tie.Need-returns
 returns c =
     by-two (λ (x y : ℕ). pos x -ℤ pos y) (back (c .difference .result) (c .difference .ok) ∙ c .difference .ensures)
-    (by-worth _ _ (c .before .before .worth .ensures) .0) (by-worth _ _ (c .before .worth2 .ensures) .0)
+    (by-value-or-zero _ _ (c .before .before .value-or-zero .ensures) .0) (by-value-or-zero _ _ (c .before .value-or-zero2 .ensures) .0)
 
 pub change-between-spec : {M : Type 1} → statement M
 change-between-spec =

@@ -4,7 +4,7 @@ use Prim.Native.Nat.{_-_}
 use mathlib.Core.Path.{refl, _∙_}
 use native.Mathlib.Omega.{arith}
 use Rattle.dayfile.specs.Records.{marksIn, correctionsIn}
-use Rattle.settlement.specs.Steps.{changesOf}
+use Rattle.settlement.specs.SettlingSteps.{changesOf}
 use Rattle.settlement.specs.Groups.{lastOf}
 use Rattle.settlement.proofs.Grouping.{Reached, reached-none, reached-more, reached-all, changes-by}
 use borrow.Author.Needs.{needs}

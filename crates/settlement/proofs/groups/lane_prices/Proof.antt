@@ -3,7 +3,7 @@ use Prim.Native.Nat.{_-_}
 use mathlib.Core.Path.{refl}
 use Rattle.dayfile.specs.Records.{marksIn}
 use Rattle.pricing.specs.Calls.{lanes}
-use Rattle.numbers.proofs.Held.{Done, none-done, one-more, all-done}
+use Rattle.numbers.proofs.Filled.{Done, none-done, one-more, all-done}
 use Rattle.settlement.specs.Groups.{lanePrice}
 use borrow.Author.Needs.{needs}
 use Rattle.settlement.proofs.groups.lane_prices.Statement.{statement}

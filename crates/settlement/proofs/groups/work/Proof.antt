@@ -4,7 +4,7 @@ use native.Mathlib.Nat.{le-trans}
 use native.Mathlib.Omega.{arith}
 use Rattle.dayfile.specs.Records.{marksIn}
 use Rattle.numbers.proofs.Signed.{back}
-use Rattle.settlement.specs.Steps.{changesOf}
+use Rattle.settlement.specs.SettlingSteps.{changesOf}
 use Rattle.settlement.specs.Groups.{lastOf}
 use Rattle.settlement.proofs.Changes.{change-at}
 use Rattle.settlement.proofs.Grouping.{works-one, works-done}

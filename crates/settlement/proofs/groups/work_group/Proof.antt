@@ -3,7 +3,7 @@
 use mathlib.Core.Path.{ap}
 use Rattle.dayfile.specs.Records.{marksIn}
 use Rattle.dayfile.specs.declared.records.Mark.{Mark}
-use Rattle.settlement.specs.Steps.{changesOf}
+use Rattle.settlement.specs.SettlingSteps.{changesOf}
 use Rattle.settlement.specs.Groups.{lastOf}
 use Rattle.settlement.proofs.Grouping.{in-file, lanes-capped, lanes-right, works}
 use borrow.Author.Needs.{needs}
@@ -22,14 +22,14 @@ write-group-requires c κs =
     let g = c .before .before .before .before .before .group in (
       in-file (s .pre .0 .1) (g .ensures),
       lanes-capped (marksIn (s .args .marks .now)) (s .args .finals .now) (s .pre .0 .1) (s .pre .1) (g .ensures)
-          (ap (λ (m : Mark). m .code) (c .before .before .before .mark-at .ensures)) (c .before .before .before .before .lane-prices .ensures) (c .before .before .worths .ensures),
+          (ap (λ (m : Mark). m .code) (c .before .before .before .mark-at .ensures)) (c .before .before .before .before .lane-prices .ensures) (c .before .before .values-or-zero .ensures),
     )
 
 returns : tie.Need-returns
 returns c =
     let s = c .before .before .before .before .before .before .before .before .before in
     let g = c .before .before .before .before .before .before .group in
-    let v = c .before .before .before .worths in
+    let v = c .before .before .before .values-or-zero in
     works (changesOf (marksIn (s .args .marks .now)) (lastOf (s .args .finals .now))) (g .result) (v .result) (s .pre .0 .1) (g .ensures)
     (lanes-right (marksIn (s .args .marks .now)) (s .args .finals .now) (s .pre .0 .1) (s .pre .1) (g .ensures)
     (ap (λ (m : Mark). m .code) (c .before .before .before .before .mark-at .ensures)) (c .before .before .before .before .before .lane-prices .ensures) (v .ensures))

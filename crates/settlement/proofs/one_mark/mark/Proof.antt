@@ -1,4 +1,4 @@
--- By what the file is judged to be: a refusal is passed on, and a sound file's sections are its lists of marks and corrections.
+-- By what the file is judged to be: a refusal is passed on, and a passed file's sections are its lists of marks and corrections.
 use mathlib.Core.Path.{refl}
 use Rattle.settlement.proofs.OneMark.{mark-answered, sections-answer}
 use borrow.Author.Needs.{needs}

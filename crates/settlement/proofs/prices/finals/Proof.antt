@@ -8,7 +8,7 @@ use native.Mathlib.Omega.{arith}
 use lib.ListN.{length, length-set}
 use Rattle.dayfile.specs.Limits.{fileLimits}
 use Rattle.dayfile.specs.Records.{marksIn, correctionsIn}
-use Rattle.settlement.proofs.Latests.{Standing, standing-none, standing-same, standing-more, standing-final}
+use Rattle.settlement.proofs.HighestNumbered.{Standing, standing-none, standing-same, standing-more, standing-final}
 use borrow.Author.Needs.{needs}
 use Rattle.settlement.proofs.prices.finals.Statement.{statement}
 use Rattle.settlement.proofs.prices.finals.Tie as tie

@@ -4,24 +4,24 @@ use mathlib.Core.Path.{_≡_, ap}
 use native.Mathlib.Nat.{le-trans}
 use native.Mathlib.Omega.{arith}
 use lib.ListN.{length, length-set}
-use Rattle.numbers.specs.Folds.{Holds}
-use Rattle.numbers.proofs.Held.{holds-none, holds-more}
+use Rattle.numbers.specs.Folds.{Filled}
+use Rattle.numbers.proofs.Filled.{filled-none, filled-more}
 use Rattle.dayfile.specs.Limits.{fileLimits}
 use Rattle.dayfile.specs.Records.{marksIn}
 use Rattle.dayfile.specs.declared.records.Mark.{Mark}
-use Rattle.settlement.specs.Steps.{todayOf}
+use Rattle.settlement.specs.SettlingSteps.{todayOf}
 use borrow.Author.Needs.{needs}
 use Rattle.settlement.proofs.prices.todays.Statement.{statement}
 use Rattle.settlement.proofs.prices.todays.Tie as tie
 
 abbrev Inv-loop : tie.InvT-loop
-Inv-loop marks n price₀ i₀ price i = (i ≤ n) × (length price ≡ fileLimits .marks) × Holds 0 (todayOf (marksIn marks)) i price
+Inv-loop marks n price₀ i₀ price i = (i ≤ n) × (length price ≡ fileLimits .marks) × Filled 0 (todayOf (marksIn marks)) i price
 
 abbrev μ-loop : tie.MeasureT-loop
 μ-loop marks n price₀ i₀ price i = n - i
 
 loop-holds : tie.Need-loop-holds Inv-loop μ-loop
-loop-holds c = (omega arith, c .before .pre .1, holds-none)
+loop-holds c = (omega arith, c .before .pre .1, filled-none)
 
 element-write-price : tie.Need-element-write-price Inv-loop μ-loop
 element-write-price c = le-trans (c .before .loop-test .taken) (c .before .before .before .before .pre .0)
@@ -32,7 +32,7 @@ loop-again c =
     let few = le-trans (c .before .loop-test .taken) (c .before .before .before .before .pre .0) in (
       omega arith,
       simp length-set (at .inv .1),
-      holds-more (rw (at .inv .1) few) (ap (λ (m : Mark). m .today) (c .mark-at .ensures)) (at .inv .2),
+      filled-more (rw (at .inv .1) few) (ap (λ (m : Mark). m .today) (c .mark-at .ensures)) (at .inv .2),
     )
 
 returns : tie.Need-returns Inv-loop μ-loop

@@ -2,7 +2,7 @@
 -- (`sum-is`).
 use Rattle.dayfile.specs.Records.{marksIn, correctionsIn}
 use Rattle.settlement.specs.Prices.{finalOf}
-use Rattle.settlement.specs.Steps.{blank}
+use Rattle.settlement.specs.SettlingSteps.{blank}
 use Rattle.settlement.proofs.Changes.{bounded-as}
 use mathlib.Core.Path.{refl, _∙_}
 use Rattle.products.specs.declared.table.Currency.the-variants.{Aud, Nzd}
@@ -15,18 +15,18 @@ use Rattle.settlement.proofs.settling.settle_accepted.Tie as tie
 
 changes-requires : tie.Need-changes-requires
 unfolding blank
-changes-requires c κs = (c .before .before .before .before .pre .0 .accepted .small .marks, refl)
+changes-requires c κs = (c .before .before .before .before .pre .0 .lists-pass .lists-within .marks, refl)
 
 pay-requires : tie.Need-pay-requires
 pay-requires c κs =
     let s = c .before .before .before .before .before .before .before in
     let bound = bounded-as (marksIn (s .args .marks .now)) (finalOf (marksIn (s .args .marks .now)) (correctionsIn (s .args .corrections .now))) (c .before .before .changes .ensures) in
-    (((payable _ (s .pre .0 .accepted), named _ (s .pre .0 .accepted)), bound), s .pre .1)
+    (((payable _ (s .pre .0 .lists-pass), named _ (s .pre .0 .lists-pass)), bound), s .pre .1)
 
 returns : tie.Need-returns
 returns c =
     let passing = c .before .before .before .before .before .before .before .before .before .before .before .before .pre .0 in
-    let acc = passing .accepted in
+    let acc = passing .lists-pass in
     let q = c .before .before .before .before .before .before .before .changes .ensures in
     let p = c .before .before .before .before .pay in
     let e = p .ensures in

@@ -84,7 +84,7 @@ fn every_part_and_every_flipped_bit() {
     }
 }
 
-/// A file with these header numbers, and these bytes behind them.
+/// A file with these header numbers, and these bytes after them.
 fn with_header(numbers: [u32; 6], rest: &[u8]) -> Vec<u8> {
     let mut file: Vec<u8> = numbers.iter().flat_map(|number| number.to_le_bytes()).collect();
     file.extend(rest);

@@ -5,25 +5,25 @@ use lib.Dec.{eqb}
 use borrow.Author.Needs.{needs}
 use borrow.Author.Tests.{le-leb, lt-leb, not-true, not-false}
 use Rattle.products.specs.Products.{priceLimit}
-use Rattle.pricing.specs.Steps.{judged}
-use Rattle.pricing.proofs.contract.judge.Statement.{statement}
-use Rattle.pricing.proofs.contract.judge.Tie as tie
+use Rattle.pricing.specs.Checking.{priceChecked}
+use Rattle.pricing.proofs.contract.check_price.Statement.{statement}
+use Rattle.pricing.proofs.contract.check_price.Tie as tie
 
 returns : tie.Need-returns
-unfolding judged priceLimit
+unfolding priceChecked priceLimit
 returns c = simp (lt-leb _ _ (c .if1 .taken))
 
 returns-2 : tie.Need-returns-2
-unfolding judged priceLimit
+unfolding priceChecked priceLimit
 returns-2 c =
     let a = c .before .before .before .args in
     simp (le-leb _ _ (c .before .before .if1 .left), not-true (eqb (a .p % a .tick) 0) (sym (c .before .off-tick .ensures) ∙ c .if2 .taken))
 
 returns-3 : tie.Need-returns-3
-unfolding judged priceLimit
+unfolding priceChecked priceLimit
 returns-3 c =
     let a = c .before .before .before .args in
     simp (le-leb _ _ (c .before .before .if1 .left), not-false (eqb (a .p % a .tick) 0) (sym (c .before .off-tick .ensures) ∙ c .if2 .left))
 
-pub judge-spec : {M : Type 1} → statement M
-judge-spec = tie.close (tie.spec returns (λ c κs. search needs) returns-2 returns-3)
+pub check-price-spec : {M : Type 1} → statement M
+check-price-spec = tie.close (tie.spec returns (λ c κs. search needs) returns-2 returns-3)

@@ -16,7 +16,7 @@ use Rattle.report.specs.Lines.{space, newline, ended, lettersOf, lineAt}
 
 -- ---- a mark's words, which the lines of its positions share
 
--- code, month and year, each with a space behind it
+-- code, month and year, each with a space after it
 abbrev pub contractFields : Mark → List ℕ
 contractFields m = (m .code .0 ∷ m .code .1 ∷ space ∷ []) ++ ended (decimal (m .month)) space ++ ended (decimal (m .year)) space
 
@@ -24,7 +24,7 @@ contractFields m = (m .code .0 ∷ m .code .1 ∷ space ∷ []) ++ ended (decima
 abbrev pub lineEnd : Mark → List ℕ
 lineEnd m = ended (lettersOf (currencyOf (m .code))) newline
 
--- fields in 11 bytes, with zeros behind them
+-- fields in 11 bytes, with zeros after them
 abbrev pub padded : List ℕ → List ℕ
 padded fields = over fields (replicate 11 0)
 
@@ -46,7 +46,7 @@ fieldsIn words at = take (lengthIn words at) (drop at words)
 abbrev pub endIn : List ℕ → ℕ → List ℕ
 endIn words at = take 4 (drop (at + 11) words)
 
--- the fields end within the twelve bytes that are copied, and the amount and the line's end cover those behind them
+-- the fields end within the twelve bytes that are copied, and the amount and the line's end cover those after them
 pub record Words (words : List ℕ) (at : ℕ) : Type 0 where
   pub within : at + 16 ≤ length words
   pub least : 6 ≤ lengthIn words at
@@ -56,7 +56,7 @@ pub record Words (words : List ℕ) (at : ℕ) : Type 0 where
 abbrev pub moneyIn : List ℕ → ℕ → ℤ → List ℕ
 moneyIn words at amount = ended (signedDecimal amount) space ++ endIn words at
 
--- what stands behind the account
+-- what stands after the account
 abbrev pub restIn : List ℕ → ℕ → ℤ → List ℕ
 restIn words at amount = fieldsIn words at ++ moneyIn words at amount
 
@@ -80,7 +80,7 @@ countOf (refused k i) = 0
 
 -- the lines of the first n positions, with the amounts of a slice
 abbrev pub linesIn : Lists → List ℤ → ℕ → List ℕ
-linesIn l a n = texts (lineAt (l .marks) (l .positions) (entryOf a)) n
+linesIn ls a n = texts (lineAt (ls .marks) (ls .positions) (entryOf a)) n
 
 -- a slice of amounts after a plan was carried out, with its count of positions
 pub record Paid (plan : Plan) (n : ℕ) (a : List ℤ) : Type 0 where

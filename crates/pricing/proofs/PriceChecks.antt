@@ -7,22 +7,22 @@ use borrow.Author.Tests.{leb-true, eqb-true}
 use lib.Dec.{leb, eqb}
 use Rattle.products.specs.Products.{priceLimit}
 use Rattle.pricing.specs.Calls.{Answer, given, refused, check, atPrice}
-use Rattle.pricing.specs.Steps.{judged}
-use Rattle.pricing.specs.declared.contract.Judged.{Judged}
-use Rattle.pricing.specs.declared.contract.Judged.the-variants.{Passed, Failed}
+use Rattle.pricing.specs.Checking.{priceChecked}
+use Rattle.pricing.specs.declared.contract.PriceChecked.{PriceChecked}
+use Rattle.pricing.specs.declared.contract.PriceChecked.the-variants.{Passed, Failed}
 
 not-passed : {A : Type 0} {k : ℕ} → Failed k ≡ Passed → A
 not-passed e = absurd (let z : _≡_ {A = ℕ} 0 1 = cc in omega arith)
 
 -- the answer a to a price that passes
-abbrev pub after : Judged → Answer → Answer
+abbrev pub after : PriceChecked → Answer → Answer
 after Passed a = a
 after (Failed k) a = refused k 0
 
 module _ (tick p : ℕ) where
-  pub as-judged : (a : Answer) → after (judged tick p) a ≡ atPrice tick p a
-  unfolding judged
-  as-judged a = by-tests (leb p priceLimit) (eqb (p % tick) 0)
+  pub as-price-checked : (a : Answer) → after (priceChecked tick p) a ≡ atPrice tick p a
+  unfolding priceChecked
+  as-price-checked a = by-tests (leb p priceLimit) (eqb (p % tick) 0)
     where
       by-tests : (b d : Bool) → after (cond b (cond d Passed (Failed 7)) (Failed 6)) a ≡ check 6 b (check 7 d a)
       by-tests true true = refl
@@ -35,16 +35,16 @@ module _ (tick p : ℕ) where
   both false d e = not-passed e
 
   -- a price that passes is within the limit and on the tick
-  pub passed : {j : Judged} → j ≡ judged tick p → j ≡ Passed → (p ≤ priceLimit) × (p % tick ≡ 0)
-  unfolding judged
+  pub passed : {j : PriceChecked} → j ≡ priceChecked tick p → j ≡ Passed → (p ≤ priceLimit) × (p % tick ≡ 0)
+  unfolding priceChecked
   passed d e =
       let (f, g) = both (leb p priceLimit) (eqb (p % tick) 0) (sym d ∙ e) in
       (leb-true _ _ f, eqb-true _ _ g)
 
 -- the answer to a price that passes, and to one that fails
-module _ (tick p : ℕ) {j : Judged} (is : j ≡ judged tick p) where
+module _ (tick p : ℕ) {j : PriceChecked} (is : j ≡ priceChecked tick p) where
   pub passes : {v w : ℕ} → j ≡ Passed → v ≡ w → given v ≡ atPrice tick p (given w)
-  passes {w = w} e g = rw (← (as-judged tick p (given w)), ← is, e, g)
+  passes {w = w} e g = rw (← (as-price-checked tick p (given w)), ← is, e, g)
 
   pub fails : {k : ℕ} (a : Answer) → j ≡ Failed k → refused k 0 ≡ atPrice tick p a
-  fails a e = rw (← (as-judged tick p a), ← is, e)
+  fails a e = rw (← (as-price-checked tick p a), ← is, e)

@@ -22,7 +22,7 @@ use Rattle.numbers.specs.declared.Found.{Found}
 use Rattle.numbers.specs.declared.Found.the-variants.{At, Nothing}
 use Rattle.checks.specs.Judging.{judgedOf}
 use Rattle.checks.specs.Finding.{foundOf}
-use Rattle.settlement.specs.Worths.{worthOf}
+use Rattle.settlement.specs.ContractValue.{valueOrZero}
 use Rattle.settlement.specs.Prices.{latestOf, finalOf, changeOf}
 use Rattle.settlement.specs.Settling.{amountOf, totalOf, Answer, settled, refused, planOf, answerOf}
 use Rattle.products.specs.declared.table.Code.{Code}
@@ -57,7 +57,7 @@ p = three 12 1 4294967292
 abbrev pub noMark : List ℕ
 noMark = fileOf m c (three 12 2 4294967292)
 
--- a header of six numbers, and nothing behind it
+-- a header of six numbers, and nothing after it
 abbrev header : ℕ → ℕ → ℕ → ℕ → ℕ → ℕ → List ℕ
 header a b c d e f = three a b c ++ three d e f
 
@@ -117,7 +117,7 @@ files =
 
 pub files-answered : map (λ x. answerOf fileLimits (x .file) 2) files ≡ map (λ x. x .answer) files
 unfolding files nearest par priceLimit yieldAt products sameCode findIn find hasMonth billDividend billDivisor valueBy valueOf
-    u32Bytes u32At signed recordsOf first some markAt correctionAt positionAt listed quoted tickOf currencyOf worthOf
+    u32Bytes u32At signed recordsOf first some markAt correctionAt positionAt listed quoted tickOf currencyOf valueOrZero
     decisionOf judgedOf countsOf latestOf finalOf changeOf amountOf totalOf planOf answerOf countsIn entryBytes headerOf madeOf
 files-answered = refl
 

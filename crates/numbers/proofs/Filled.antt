@@ -11,20 +11,20 @@ use lib.Dec.{eqb}
 use lib.ListN.{length, getD, set, replicate, getD-replicate, length-set}
 use lib.Seq.{getD-set-same, getD-set-other, ext-getD}
 use borrow.Author.Tests.{eqb-true, eqb-false}
-use Rattle.numbers.specs.Folds.{table, Holds}
+use Rattle.numbers.specs.Folds.{table, Filled}
 use Rattle.numbers.proofs.Tables.{length-table, entry}
 
 module _ {A : Type 0} {d : A} where
-  pub holds-none : {f : ℕ → A} {r : List A} → Holds d f 0 r
-  holds-none = record { entry = λ i h. absurd (not-suc-le-zero h) }
+  pub filled-none : {f : ℕ → A} {r : List A} → Filled d f 0 r
+  filled-none = record { entry = λ i h. absurd (not-suc-le-zero h) }
 
   -- one value in every place
-  pub holds-all : {f : ℕ → A} (n : ℕ) (v : A) → ((i : ℕ) → v ≡ f i) → Holds d f n (replicate n v)
-  holds-all n v e = record { entry = λ i h. getD-replicate n i v d h ∙ e i }
+  pub filled-all : {f : ℕ → A} (n : ℕ) (v : A) → ((i : ℕ) → v ≡ f i) → Filled d f n (replicate n v)
+  filled-all n v e = record { entry = λ i h. getD-replicate n i v d h ∙ e i }
 
   -- one store more
-  pub holds-more : {f : ℕ → A} {n : ℕ} {v : A} {r : List A} → n < length r → v ≡ f n → Holds d f n r → Holds d f (n + 1) (set r n v)
-  holds-more {f} {n} {v} {r} h e a = record { entry = go }
+  pub filled-more : {f : ℕ → A} {n : ℕ} {v : A} {r : List A} → n < length r → v ≡ f n → Filled d f n r → Filled d f (n + 1) (set r n v)
+  filled-more {f} {n} {v} {r} h e a = record { entry = go }
     where
       go : (i : ℕ) → i < n + 1 → getD (set r n v) i d ≡ f i
       go i l =
@@ -32,8 +32,8 @@ module _ {A : Type 0} {d : A} where
           (λ (q : i < n). getD-set-other r n i v d (λ w. omega arith) ∙ a .entry i q) (eq-or-lt-of-le (le-of-suc-le-suc (rw add-one at l)))
 
   -- a store that changes one value
-  pub holds-set : {f g : ℕ → A} {n b : ℕ} {v : A} {r : List A} → b < length r → v ≡ g b → ((i : ℕ) → (i ≡ b → ⊥) → g i ≡ f i) → Holds d f n r → Holds d g n (set r b v)
-  holds-set {f} {g} {n} {b} {v} {r} h e keep a = record { entry = λ i l. go i l (eqb i b) refl }
+  pub filled-set : {f g : ℕ → A} {n b : ℕ} {v : A} {r : List A} → b < length r → v ≡ g b → ((i : ℕ) → (i ≡ b → ⊥) → g i ≡ f i) → Filled d f n r → Filled d g n (set r b v)
+  filled-set {f} {g} {n} {b} {v} {r} h e keep a = record { entry = λ i l. go i l (eqb i b) refl }
     where
       go : (i : ℕ) → i < n → (t : Bool) → eqb i b ≡ t → getD (set r b v) i d ≡ g i
       go i l true p = rw (eqb-true i b p) (getD-set-same r b v d h ∙ e)
@@ -43,24 +43,24 @@ module _ {A : Type 0} {d : A} where
 pub record Done {A : Type 0} (d : A) (f : ℕ → A) (n i : ℕ) (r : List A) : Type 0 where
   pub upto : i ≤ n
   pub size : length r ≡ n
-  pub held : Holds d f i r
+  pub held : Filled d f i r
 
 module _ {A : Type 0} {d : A} {f : ℕ → A} {n : ℕ} where
   pub none-done : {r : List A} → length r ≡ n → Done d f n 0 r
-  none-done e = record { upto = omega arith; size = e; held = holds-none }
+  none-done e = record { upto = omega arith; size = e; held = filled-none }
 
   pub one-more : {i : ℕ} {r : List A} {v : A} → i < n → v ≡ f i → Done d f n i r → Done d f n (i + 1) (set r i v)
-  one-more h e l = record { upto = omega arith; size = simp length-set (l .size); held = holds-more (rw (l .size) h) e (l .held) }
+  one-more h e l = record { upto = omega arith; size = simp length-set (l .size); held = filled-more (rw (l .size) h) e (l .held) }
 
-  pub all-done : {i : ℕ} {r : List A} → n ≤ i → Done d f n i r → Holds d f n r
+  pub all-done : {i : ℕ} {r : List A} → n ≤ i → Done d f n i r → Filled d f n r
   all-done h l = record { entry = λ j g. l .held .entry j (le-trans g h) }
 
   -- a list of n places with these values
-  pub holds-table : {r : List A} → length r ≡ n → Holds d f n r → r ≡ table f n
-  holds-table {r} e h = ext-getD d r (table f n) (e ∙ sym (length-table f n)) (λ i g. h .entry i (rw e at g) ∙ sym (table-at i (rw e at g)))
+  pub filled-table : {r : List A} → length r ≡ n → Filled d f n r → r ≡ table f n
+  filled-table {r} e h = ext-getD d r (table f n) (e ∙ sym (length-table f n)) (λ i g. h .entry i (rw e at g) ∙ sym (table-at i (rw e at g)))
     where
       table-at : (i : ℕ) → i < n → getD (table f n) i d ≡ f i
       table-at i g = rw append-nil at (entry f n i [] d g)
 
-  pub table-holds : {r : List A} → r ≡ table f n → Holds d f n r
-  table-holds e = record { entry = λ i g. rw e (rw append-nil at (entry f n i [] d g)) }
+  pub table-filled : {r : List A} → r ≡ table f n → Filled d f n r
+  table-filled e = record { entry = λ i g. rw e (rw append-nil at (entry f n i [] d g)) }

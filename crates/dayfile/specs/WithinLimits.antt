@@ -9,18 +9,18 @@ use Rattle.dayfile.specs.Layout.{lengthOf}
 use Rattle.dayfile.specs.declared.file.DayFile.{DayFile}
 
 -- the counts are within the file's limits
-pub record Limited (d : DayFile) : Type 0 where
+pub record CountsWithinLimits (d : DayFile) : Type 0 where
   pub marks : d .marks ≤ fileLimits .marks
   pub corrections : d .corrections ≤ fileLimits .corrections
   pub positions : d .positions ≤ fileLimits .positions
 
 -- and the file has the length that they give
 pub record LaidOut (s : List ℕ) (d : DayFile) : Type 0 where
-  pub limited : Limited d
+  pub counts-within : CountsWithinLimits d
   pub whole : length s ≡ lengthOf d
 
 -- three lists within the file's limits
-pub record Small (l : Lists) : Type 0 where
-  pub marks : length (l .marks) ≤ fileLimits .marks
-  pub corrections : length (l .corrections) ≤ fileLimits .corrections
-  pub positions : length (l .positions) ≤ fileLimits .positions
+pub record ListsWithinLimits (ls : Lists) : Type 0 where
+  pub marks : length (ls .marks) ≤ fileLimits .marks
+  pub corrections : length (ls .corrections) ≤ fileLimits .corrections
+  pub positions : length (ls .positions) ≤ fileLimits .positions

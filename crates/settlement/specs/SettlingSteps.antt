@@ -16,7 +16,7 @@ use Rattle.numbers.specs.Checks.{decisionOf}
 use Rattle.numbers.specs.declared.deciding.Decision.the-variants.{Unmet}
 use Rattle.checks.specs.Corrections.{resentOf}
 use Rattle.checks.specs.Judging.{recordChecks}
-use Rattle.dayfile.specs.Steps.{Small}
+use Rattle.dayfile.specs.WithinLimits.{ListsWithinLimits}
 use Rattle.settlement.specs.Prices.{changeOf}
 use Rattle.settlement.specs.Settling.{keepOf, amountOf, sumOfAmounts, said, Plan, answerBy, paidBy}
 use Rattle.dayfile.specs.declared.records.Mark.{Mark}
@@ -48,13 +48,13 @@ abbrev pub changesOf : List Mark → (ℕ → ℕ) → List ℤ
 changesOf ms final = front (changeOf ms final) blank (length ms)
 
 -- three lists within the file's limits, whose records passed
-pub record Accepted (ls : Lists) : Type 0 where
-  pub small : Small ls
+pub record ListsPass (ls : Lists) : Type 0 where
+  pub lists-within : ListsWithinLimits ls
   pub passed : decisionOf (recordChecks ls) ≡ Unmet
 
 -- and how many of the corrections were resent
-pub record Passing (ls : Lists) (resent : ℕ) : Type 0 where
-  pub accepted : Accepted ls
+pub record ListsPassWith (ls : Lists) (resent : ℕ) : Type 0 where
+  pub lists-pass : ListsPass ls
   pub counted : resent ≡ resentOf (ls .corrections)
 
 -- positions whose lots and marks are in range

@@ -4,5 +4,5 @@ use Rattle.pricing.specs.Calls.{orZero, valueOf}
 use Rattle.products.specs.declared.table.Code.{Code}
 
 -- the value of one contract
-unfoldable pub worthOf : Code → ℕ → ℕ
-worthOf a p = orZero (valueOf a p)
+unfoldable pub valueOrZero : Code → ℕ → ℕ
+valueOrZero a p = orZero (valueOf a p)

@@ -8,14 +8,14 @@ use native.Mathlib.Omega.{arith}
 use lib.Dec.{leb}
 use lib.ListN.{length, getD, set, replicate}
 use borrow.Author.Tests.{eq-eqb, ne-eqb, le-leb}
-use Rattle.numbers.specs.Folds.{Holds}
+use Rattle.numbers.specs.Folds.{Filled}
 use Rattle.dayfile.specs.Limits.{fileLimits}
 use Rattle.dayfile.specs.Records.{correctionAt}
 use Rattle.settlement.specs.Prices.{Latest, Never, Price, newerOf, latestOf, orToday, finalOf}
-use Rattle.settlement.specs.Steps.{todayOf}
+use Rattle.settlement.specs.SettlingSteps.{todayOf}
 use Rattle.dayfile.specs.declared.records.Mark.{Mark}
 use Rattle.dayfile.specs.declared.records.Correction.{Correction}
-use Rattle.numbers.proofs.Held.{holds-all, holds-set}
+use Rattle.numbers.proofs.Filled.{filled-all, filled-set}
 
 -- the number that a correction must reach: 0 where there is none yet
 abbrev numberOf : Latest → ℕ
@@ -46,15 +46,15 @@ abbrev priceAt : List Mark → List Correction → ℕ → ℕ → ℕ
 priceAt ms cs k m = orToday (latestOf cs m k) (todayOf ms m)
 
 pub record Standing (ms : List Mark) (cs : List Correction) (n k : ℕ) (numbers prices : List ℕ) : Type 0 where
-  pub number : Holds 0 (numberAt cs k) n numbers
-  pub price : Holds 0 (priceAt ms cs k) n prices
+  pub number : Filled 0 (numberAt cs k) n numbers
+  pub price : Filled 0 (priceAt ms cs k) n prices
 
 pub standing-none : (ms : List Mark) (cs : List Correction) {n : ℕ} {prices : List ℕ}
-    → n ≤ fileLimits .marks → Holds 0 (todayOf ms) n prices → Standing ms cs n 0 (replicate (fileLimits .marks) 0) prices
+    → n ≤ fileLimits .marks → Filled 0 (todayOf ms) n prices → Standing ms cs n 0 (replicate (fileLimits .marks) 0) prices
 unfolding latestOf
 standing-none ms cs h p =
     record {
-      number = record { entry = λ m l. holds-all {f = numberAt cs 0} (fileLimits .marks) 0 (λ i. refl) .entry m (omega arith) };
+      number = record { entry = λ m l. filled-all {f = numberAt cs 0} (fileLimits .marks) 0 (λ i. refl) .entry m (omega arith) };
       price = record { entry = p .entry };
     }
 
@@ -96,11 +96,11 @@ module _ (ms : List Mark) (cs : List Correction) (k : ℕ) {n : ℕ} {numbers pr
       let other : (m : ℕ) → (m ≡ c .mark → ⊥) → latestOf cs m (suc k) ≡ latestOf cs m k = λ m d. of-other cs k m (λ z. d (sym z ∙ mark)) in
       rw add-one
       (record {
-        number = holds-set {g = numberAt cs (suc k)} (omega arith) number (λ m d. ap numberOf (other m d)) (s .number);
-        price = holds-set {g = priceAt ms cs (suc k)} (omega arith) price (λ m d. ap (λ x. orToday x (todayOf ms m)) (other m d)) (s .price);
+        number = filled-set {g = numberAt cs (suc k)} (omega arith) number (λ m d. ap numberOf (other m d)) (s .number);
+        price = filled-set {g = priceAt ms cs (suc k)} (omega arith) price (λ m d. ap (λ x. orToday x (todayOf ms m)) (other m d)) (s .price);
       })
 
 -- after all corrections the prices are the final ones
-pub standing-final : (ms : List Mark) (cs : List Correction) {n : ℕ} {numbers prices : List ℕ} → Standing ms cs n (length cs) numbers prices → Holds 0 (finalOf ms cs) n prices
+pub standing-final : (ms : List Mark) (cs : List Correction) {n : ℕ} {numbers prices : List ℕ} → Standing ms cs n (length cs) numbers prices → Filled 0 (finalOf ms cs) n prices
 unfolding finalOf
 standing-final ms cs s = record { entry = s .price .entry }

@@ -7,25 +7,25 @@ use Rattle.pricing.specs.Calls.{Answer, refused}
 use Rattle.products.specs.declared.table.Code.{Code}
 use Rattle.products.specs.declared.table.Product.{Product}
 use Rattle.products.specs.declared.table.Terms.{Terms}
-use Rattle.products.specs.declared.table.Found.{Found}
-use Rattle.products.specs.declared.table.Found.the-variants.{At, Missing}
-use Rattle.pricing.specs.declared.contract.Judged.{Judged}
-use Rattle.pricing.specs.declared.contract.Judged.the-variants.{Passed, Failed}
+use Rattle.products.specs.declared.table.NamedProduct.{NamedProduct}
+use Rattle.products.specs.declared.table.NamedProduct.the-variants.{At, Missing}
+use Rattle.pricing.specs.declared.contract.PriceChecked.{PriceChecked}
+use Rattle.pricing.specs.declared.contract.PriceChecked.the-variants.{Passed, Failed}
 use Rattle.pricing.specs.declared.contract.Checked.{Checked}
 use Rattle.pricing.specs.declared.contract.Checked.the-variants as checked
 
 -- checks 6 and 7 of a price
-unfoldable pub judged : ℕ → ℕ → Judged
-judged tick p = cond (leb p priceLimit) (cond (eqb (p % tick) 0) Passed (Failed 7)) (Failed 6)
+unfoldable pub priceChecked : ℕ → ℕ → PriceChecked
+priceChecked tick p = cond (leb p priceLimit) (cond (eqb (p % tick) 0) Passed (Failed 7)) (Failed 6)
 
 -- checks 6 and 7 of a price of the product
-abbrev pub judgedProduct : Product → Judged → Checked
-judgedProduct q Passed = checked.Product (q .terms) (q .tick)
-judgedProduct q (Failed k) = checked.Refused k
+abbrev pub checkedProduct : Product → PriceChecked → Checked
+checkedProduct product Passed = checked.Product (product .terms) (product .tick)
+checkedProduct product (Failed k) = checked.Refused k
 
 -- check 4 before them
-abbrev pub checkIn : Found → ℕ → Checked
-checkIn (At q) p = judgedProduct q (judged (q .tick) p)
+abbrev pub checkIn : NamedProduct → ℕ → Checked
+checkIn (At product) p = checkedProduct product (priceChecked (product .tick) p)
 checkIn Missing p = checked.Refused 4
 
 unfoldable pub checkOf : Code → ℕ → Checked
@@ -37,11 +37,11 @@ ofChecked (checked.Product t tick) f = f t tick
 ofChecked (checked.Refused k) f = refused k 0
 
 -- a price fails check 6 or 7
-abbrev pub isFailed : Judged → Bool
+abbrev pub isFailed : PriceChecked → Bool
 isFailed Passed = false
 isFailed (Failed k) = true
 
 -- a number for a price that passes, else 0
-abbrev pub ifPassed : Judged → ℕ → ℕ
+abbrev pub ifPassed : PriceChecked → ℕ → ℕ
 ifPassed Passed n = n
 ifPassed (Failed k) n = 0
