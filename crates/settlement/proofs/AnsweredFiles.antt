@@ -97,13 +97,16 @@ files =
     ∷ (fileOf (markOf IB 3 18 940000 940050) (three 5 0 950050) p answers refused 10 1)
     ∷ (fileOf m (three 7 1 950100) p answers refused 11 1)
     ∷ (fileOf m (three 7 0 951000) p answers refused 11 1)
-    -- positions: no mark, no lots, too many either way
+    -- positions: no mark, no lots, too many either way; an account twice in one mark, with the same lots, with others, and without any
     ∷ (noMark answers refused 12 1)
     ∷ (fileOf m c (three 12 1 0) answers refused 13 1)
     ∷ (fileOf m c (three 12 1 1000001) answers refused 13 1)
     ∷ (fileOf m c (three 12 1 4293967295) answers refused 13 1)
+    ∷ (fileOf m c (three 11 0 10) answers refused 16 1)
+    ∷ (fileOf m c (three 11 0 4294967292) answers refused 16 1)
+    ∷ (fileOf m c (three 11 0 0) answers refused 13 1)
     -- what passes: the last year, another year or month of a code, another code, a correction on its own mark's tick, the most lots either way,
-    -- a price at the limit
+    -- a price at the limit; an account in two marks, two accounts in one mark
     ∷ (fileOf m c p answers settled 2 (pos 24060) (negsuc 9575) 0)
     ∷ (fileOf (markOf BB 6 99 940000 940100) c p answers settled 2 (pos 24060) (negsuc 9575) 0)
     ∷ (fileOf (markOf IR 3 19 940000 940100) c p answers settled 2 (pos 14484) (pos 0) 0)
@@ -113,6 +116,8 @@ files =
     ∷ (fileOf m c (three 12 1 1000000) answers settled 2 (pos 24060) (pos 2394000000) 0)
     ∷ (fileOf m c (three 12 1 4293967296) answers settled 2 (pos 24060) (negsuc 2393999999) 0)
     ∷ (fileOf (markOf BB 6 19 1000000 1000000) c p answers settled 2 (pos 24060) (pos 0) 0)
+    ∷ (fileOf m c (three 11 1 4294967292) answers settled 2 (pos 24060) (negsuc 9575) 0)
+    ∷ (fileOf m c (three 12 0 4294967292) answers settled 2 (pos 14436) (pos 0) 0)
     ∷ []
 
 pub files-answered : map (λ x. answerOf fileLimits (x .file) 2) files ≡ map (λ x. x .answer) files
@@ -120,6 +125,12 @@ unfolding files nearest par priceLimit yieldAt products sameCode findIn find has
     u32Bytes u32At signed recordsOf first some markAt correctionAt positionAt listed quoted tickOf currencyOf valueOrZero
     decisionOf judgedOf countsOf latestOf finalOf changeOf amountOf totalOf planOf answerOf countsIn entryBytes headerOf madeOf
 files-answered = refl
+
+-- one place for two positions: 14, but after 16
+pub room-last : (answerOf fileLimits (fileOf m c p) 1 ≡ refused 14 0) × (answerOf fileLimits (fileOf m c (three 11 0 10)) 1 ≡ refused 16 1)
+unfolding priceLimit products sameCode findIn find hasMonth u32Bytes u32At signed recordsOf first some markAt correctionAt positionAt
+    listed quoted tickOf decisionOf judgedOf countsOf planOf answerOf countsIn entryBytes headerOf madeOf
+room-last = (refl, refl)
 
 -- ---- what each check finds by itself
 
@@ -134,20 +145,20 @@ findings =
     -- four faults: a byte too many, a second mark off its tick, a second correction that names no mark, a second position without lots
     record {
       file = fileOf (markOf BB 6 19 940050 940100) (three 5 2 951000) (three 12 1 0) ++ (0 ∷ []);
-      asked = 1 ∷ 2 ∷ 3 ∷ 4 ∷ 5 ∷ 6 ∷ 7 ∷ 8 ∷ 9 ∷ 10 ∷ 11 ∷ 12 ∷ 13 ∷ 14 ∷ [];
-      found = Nothing ∷ Nothing ∷ At 0 ∷ Nothing ∷ Nothing ∷ Nothing ∷ At 1 ∷ Nothing ∷ At 1 ∷ Nothing ∷ Nothing ∷ Nothing ∷ At 1 ∷ Nothing ∷ [];
+      asked = 1 ∷ 2 ∷ 3 ∷ 4 ∷ 5 ∷ 6 ∷ 7 ∷ 8 ∷ 9 ∷ 10 ∷ 11 ∷ 12 ∷ 13 ∷ 14 ∷ 16 ∷ [];
+      found = Nothing ∷ Nothing ∷ At 0 ∷ Nothing ∷ Nothing ∷ Nothing ∷ At 1 ∷ Nothing ∷ At 1 ∷ Nothing ∷ Nothing ∷ Nothing ∷ At 1 ∷ Nothing ∷ Nothing ∷ [];
     }
-    -- all of 3 to 13, most of them at two records: the first is found
+    -- all of 3 to 13 and 16, most of them at two records: the first is found
     ∷ record {
       file =
           madeOf
           (markOf IR 3 18 950000 950200 ++ markOf (66, 67) 6 19 940000 940100 ++ markOf BB 6 19 1000100 940100 ++ markOf BB 6 19 940050 1000100
           ++ markOf IR 3 18 940050 940100)
           (three 7 0 950100 ++ three 5 9 951001 ++ three 6 1 951001 ++ three 6 0 951050 ++ three 7 8 1000100)
-          (three 11 0 10 ++ three 12 5 4 ++ three 13 0 0 ++ three 14 9 0)
+          (three 11 0 10 ++ three 12 5 4 ++ three 13 0 0 ++ three 14 9 0 ++ three 12 5 9 ++ three 11 0 1)
           ++ (0 ∷ []);
-      asked = 1 ∷ 2 ∷ 3 ∷ 4 ∷ 5 ∷ 6 ∷ 7 ∷ 8 ∷ 9 ∷ 10 ∷ 11 ∷ 12 ∷ 13 ∷ 14 ∷ [];
-      found = Nothing ∷ Nothing ∷ At 0 ∷ At 1 ∷ At 1 ∷ At 2 ∷ At 3 ∷ At 3 ∷ At 1 ∷ At 3 ∷ At 3 ∷ At 1 ∷ At 2 ∷ Nothing ∷ [];
+      asked = 1 ∷ 2 ∷ 3 ∷ 4 ∷ 5 ∷ 6 ∷ 7 ∷ 8 ∷ 9 ∷ 10 ∷ 11 ∷ 12 ∷ 13 ∷ 14 ∷ 16 ∷ [];
+      found = Nothing ∷ Nothing ∷ At 0 ∷ At 1 ∷ At 1 ∷ At 2 ∷ At 3 ∷ At 3 ∷ At 1 ∷ At 3 ∷ At 3 ∷ At 1 ∷ At 2 ∷ Nothing ∷ At 4 ∷ [];
     }
     -- shorter than a header: its length alone is looked at
     ∷ record {
