@@ -32,7 +32,8 @@ use Rattle.checks.specs.Table.{aboveLimit, listed, listedIn, quoted, quo
 use Rattle.checks.specs.Marks.{Quoted, OffTick, offTick, SameContract, sameContract, contractPair}
 use Rattle.checks.specs.Marks.{MarkCheck, MarkCode, MarkDate, MarkLimit, MarkTick, MarkRepeated, markChecks, tooManyMarks, markListChecks}
 use Rattle.checks.specs.Corrections.{Clash, clashing, clashPair, CorrectionCheck, CorrectionMark, CorrectionPrice, CorrectionClash, correctionChecks, tooManyCorrections, correctionListChecks}
-use Rattle.checks.specs.Positions.{badLots, SameHolding, sameHolding, holdingPair, PositionCheck, PositionMark, PositionLots, PositionRepeated, positionChecks, tooManyPositions, positionListChecks}
+use Rattle.checks.specs.Positions.{badLots, SameHolding, sameHolding, holdingPair, PositionCheck, PositionMark, PositionLots, PositionRepeated}
+use Rattle.checks.specs.Positions.{positionChecks, tooManyPositions, positionListChecks}
 use Rattle.checks.specs.Judging.{recordChecks, fileChecks}
 
 -- ---- the product table
