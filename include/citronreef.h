@@ -105,14 +105,14 @@ citronreef_quote citronreef_bracket(uint8_t first, uint8_t second, uint32_t pric
 citronreef_outcome citronreef_settle(const uint8_t *file, size_t file_length, int64_t *amounts, size_t places);
 
 /*
- * The prices of the mark with this index, from 0, of a day file that passes checks 1 to 13. A file that does not is refused as
- * citronreef_settle refuses it; a mark that the file does not have is refused with 12, and index is the one asked for. The amount
- * of a position is its lots times the change of its mark.
+ * The prices of the mark with this index, from 0, of a day file that passes checks 1 to 13 and 16. A file that does not is refused
+ * as citronreef_settle refuses it; a mark that the file does not have is refused with 12, and index is the one asked for. The
+ * amount of a position is its lots times the change of its mark.
  */
 citronreef_mark_prices citronreef_mark(const uint8_t *file, size_t file_length, size_t mark);
 
 /*
- * Whether the condition of the check with this number, 1 to 13, holds in a day file, and the first record where it does. Each
+ * Whether the condition of the check with this number, 1 to 13 or 16, holds in a day file, and the first record where it does. Each
  * condition is looked for by itself, so that one may be found that vanishes once an earlier one is mended. Not all of every file is
  * looked at: of one that is shorter than 24 bytes only check 1, and of one with a count above its limit only 1 to 3. Otherwise the
  * sections follow one another from byte 24 by the header's counts, whatever its offsets say, as far as the file has whole records.

@@ -18,6 +18,11 @@ def position(lots=10, mark=0, account=11):
     return Position(account, mark, lots)
 
 
+def held_by_many(*lots, mark=0, first=11):
+    """Positions of these lots in one mark, each of another account, from the first one on."""
+    return [position(held, mark, account) for account, held in enumerate(lots, first)]
+
+
 def day(marks=(mark(),), corrections=(), positions=(position(),)):
     return Day(list(marks), list(corrections), list(positions))
 

@@ -39,9 +39,14 @@ def random_corrections(random, marks, count):
     return corrections
 
 
-def random_position(random, marks):
-    lots = random.below(MAX_LOTS) + 1
-    return Position(random.below(2**32), random.below(len(marks)), lots if random.below(2) else -lots)
+def random_positions(random, marks, count):
+    """Positions of which no two agree in account and mark. Many agree in one of them: three accounts of four are small numbers."""
+    positions = {}
+    while len(positions) < count:
+        account, index = random.below(count if random.below(4) else 2**32), random.below(len(marks))
+        lots = random.below(MAX_LOTS) + 1
+        positions.setdefault((account, index), Position(account, index, lots if random.below(2) else -lots))
+    return list(positions.values())
 
 
 def random_day(seed, marks, corrections, positions):
@@ -49,4 +54,4 @@ def random_day(seed, marks, corrections, positions):
     random = Random(seed)
     listed = [random_mark(random, contract) for contract in contracts(marks)]
     corrected = random_corrections(random, listed, corrections)
-    return Day(listed, corrected, [random_position(random, listed) for _ in range(positions)])
+    return Day(listed, corrected, random_positions(random, listed, positions))

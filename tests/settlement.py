@@ -1,8 +1,9 @@
 #!/usr/bin/env python3
 """The settlement of a day file in plain Python, which shares nothing with the program it tests.
 
-It is written from document 01: "The day file", "Why a call is turned away" and the sheet. Records and layout are in records.py,
-and values come from calculator.py, in exact fractions. Nothing here is quick: a clash is looked for among all earlier records.
+It is written from document 01: "The day file", "Why a call is turned away" and the sheet. Check 16 was asked for afterwards.
+Records and layout are in records.py, and values come from calculator.py, in exact fractions. Nothing here is quick: a clash of
+marks or of corrections is looked for among all earlier records.
 
   settlement.py < file     prints the sheet of a day file
 """
@@ -88,9 +89,21 @@ def after_clash(records, clashes):
     return lambda i: any(clashes(records[i], earlier) for earlier in records[:i])
 
 
+def repeated_positions(positions):
+    """The indices of the positions whose account and mark an earlier one has; their lots may differ."""
+    held, repeated = set(), set()
+    for i, position in enumerate(positions):
+        pair = (position.account, position.mark)
+        if pair in held:
+            repeated.add(i)
+        held.add(pair)
+    return repeated
+
+
 def record_checks(day):
-    """Checks 4 to 13 in their order: number, how many records, and whether record i fails."""
+    """Checks 4 to 13 and 16 in their order: number, how many records, and whether record i fails."""
     marks, corrections, positions = day.marks, day.corrections, day.positions
+    repeated = repeated_positions(positions)
     return [
         (4, len(marks), lambda i: marks[i].code not in PRODUCTS),
         (5, len(marks), lambda i: marks[i].month not in marks[i].product.months or marks[i].year > MAX_YEAR),
@@ -102,6 +115,7 @@ def record_checks(day):
         (11, len(corrections), after_clash(corrections, clash)),
         (12, len(positions), lambda i: positions[i].mark >= len(marks)),
         (13, len(positions), lambda i: positions[i].lots == 0 or not -MAX_LOTS <= positions[i].lots <= MAX_LOTS),
+        (16, len(positions), lambda i: i in repeated),
     ]
 
 
@@ -112,7 +126,7 @@ def breaks_6_or_7(correction, marks):
 
 
 def record_refusal(day):
-    """Checks 4 to 13, each over the whole file before the next: the first that fails with its first record, or None."""
+    """Checks 4 to 13 and 16, each over the whole file before the next: the first that fails with its first record, or None."""
     for number, count, fails in record_checks(day):
         for i in range(count):
             if fails(i):

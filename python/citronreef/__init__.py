@@ -108,7 +108,7 @@ def settle(file: Bytes) -> Settled:
 
 
 def mark(file: Bytes, index: int) -> MarkPrices:
-    """The prices of the mark with this index, from 0, of a file that passes checks 1 to 13.
+    """The prices of the mark with this index, from 0, of a file that passes checks 1 to 13 and 16.
 
     A mark that the file does not have is refused with 12 at the index asked for.
     """
@@ -126,7 +126,7 @@ def mark(file: Bytes, index: int) -> MarkPrices:
 
 
 def find(file: Bytes, check: int) -> Optional[int]:
-    """The first record where the condition of a check, 1 to 13, holds; None where it holds at nothing that is looked at.
+    """The first record where the condition of a check, 1 to 13 or 16, holds; None where it holds at nothing that is looked at.
 
     Each condition is looked for by itself, so that one may be found that vanishes once an earlier one is mended. Not all of every
     file is looked at: of one that is shorter than 24 bytes only check 1, and of one with a count above its limit only 1 to 3.

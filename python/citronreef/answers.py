@@ -22,6 +22,7 @@ WORDS = (
     "a position's lots are 0, below -1,000,000 or above 1,000,000",
     "the amounts slice has fewer places than the file has positions",
     "a tick value is asked for where the price one tick higher is above 100.0000",
+    "two positions agree in account and mark",
 )
 
 

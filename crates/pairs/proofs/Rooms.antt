@@ -53,6 +53,6 @@ room-for i h r =
     }
 
 -- room in places that are all empty
-pub room-in : {k : Key} {size : ℕ} {s : List ℕ} {n : ℕ} (roots places : ℕ) → Keyed k size s n → 0 < roots → roots ≤ most → roots + 2 * n ≤ places
+pub room-in : {k : Key} {size : ℕ} {s : List ℕ} {n : ℕ} (roots places : ℕ) → Keyed k size s n → 0 < roots → roots ≤ 4 * most → roots + 2 * n ≤ places
     → Room k size s roots (length {A = ℕ} (replicate places 0)) n
 room-in roots places h r m l = let z : ℕ = 0 in record { keyed = h; rooted = r; limited = m; room = rw (length-replicate places z) l }

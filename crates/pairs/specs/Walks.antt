@@ -36,11 +36,11 @@ pub record Keyed (k : Key) (size : ℕ) (s : List ℕ) (n : ℕ) : Type 0 where
   pub whole : n ≤ length s / size
   pub wide : 0 < n → widthOf k ≤ size
 
--- and places for a tree of them: the roots, and two below each record
+-- and places for a tree of them: the roots, at most four for each of the most records, and two below each record
 pub record Room (k : Key) (size : ℕ) (s : List ℕ) (roots places n : ℕ) : Type 0 where
   pub keyed : Keyed k size s n
   pub rooted : 0 < roots
-  pub limited : roots ≤ most
+  pub limited : roots ≤ 4 * most
   pub room : roots + 2 * n ≤ places
 
 -- a list of zeros: places that are all empty

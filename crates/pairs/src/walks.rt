@@ -8,7 +8,7 @@
 //
 // The upper half of a key of four bytes is 0, and the 32 bits determine it. Those that chose the root are the same for all keys that start
 // there, so that two keys differ in one of the others, which lead first: a walk goes past at most 27 records where there are 32 roots, past
-// 23 where there are 512, and past 20 where there are 4,096.
+// 23 where there are 512, and past 18 where there are 16,384.
 use crate::keys::Key;
 use crate::keys::MOST;
 use crate::keys::WORD;
@@ -36,6 +36,20 @@ const MIDDLE_PLACES: usize = 3 * MIDDLE;
 
 const MOST_PLACES: usize = 3 * MOST;
 
+// Four roots for each record, where only the first that repeats another is looked for: of a list without one nearly every walk then ends
+// at its root, and the processor foresees that.
+const SMALL_ROOTS: usize = 4 * SMALL;
+
+const MIDDLE_ROOTS: usize = 4 * MIDDLE;
+
+const MOST_ROOTS: usize = 4 * MOST;
+
+const SMALL_SPREAD: usize = 6 * SMALL;
+
+const MIDDLE_SPREAD: usize = 6 * MIDDLE;
+
+const MOST_SPREAD: usize = 6 * MOST;
+
 // 32 bits of a key.
 fn scatter(x: u64) -> u64
     ensures { λ r. ⌜ (r ≡ scattered x) × (r < word) ⌝ }
@@ -47,7 +61,7 @@ fn scatter(x: u64) -> u64
 
 // The root where the walk of a key starts.
 fn root_of(x: u64, roots: usize) -> usize
-    requires { ⌜ (0 < roots) × (roots ≤ most) ⌝ }
+    requires { ⌜ (0 < roots) × (roots ≤ 4 * most) ⌝ }
     ensures { λ r. ⌜ (r ≡ rootOf roots x) × (r < roots) ⌝ }
 {
     (scatter(x) * (roots as u64) / WORD) as usize
@@ -126,8 +140,8 @@ fn first_small(records: &[u8], size: usize, key: Key, n: usize) -> Found
     requires { ⌜ (Keyed key size (now records) n) × (n ≤ small) ⌝ }
     ensures { λ r. ⌜ r ≡ first (repeating (sameKeyIn key size (now (records .entry)))) n ⌝ }
 {
-    let mut place = [0u16; SMALL_PLACES];
-    first_in(records, size, key, n, SMALL, &mut place)
+    let mut place = [0u16; SMALL_SPREAD];
+    first_in(records, size, key, n, SMALL_ROOTS, &mut place)
 }
 
 // Of at most MIDDLE records.
@@ -135,8 +149,8 @@ fn first_middle(records: &[u8], size: usize, key: Key, n: usize) -> Found
     requires { ⌜ (Keyed key size (now records) n) × (n ≤ middle) ⌝ }
     ensures { λ r. ⌜ r ≡ first (repeating (sameKeyIn key size (now (records .entry)))) n ⌝ }
 {
-    let mut place = [0u16; MIDDLE_PLACES];
-    first_in(records, size, key, n, MIDDLE, &mut place)
+    let mut place = [0u16; MIDDLE_SPREAD];
+    first_in(records, size, key, n, MIDDLE_ROOTS, &mut place)
 }
 
 // Of as many as are looked at.
@@ -144,8 +158,8 @@ fn first_large(records: &[u8], size: usize, key: Key, n: usize) -> Found
     requires { ⌜ Keyed key size (now records) n ⌝ }
     ensures { λ r. ⌜ r ≡ first (repeating (sameKeyIn key size (now (records .entry)))) n ⌝ }
 {
-    let mut place = [0u16; MOST_PLACES];
-    first_in(records, size, key, n, MOST, &mut place)
+    let mut place = [0u16; MOST_SPREAD];
+    first_in(records, size, key, n, MOST_ROOTS, &mut place)
 }
 
 // The first record that has the key of an earlier one. Records after the first MOST are not looked at, and none where a record is shorter

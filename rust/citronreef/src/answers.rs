@@ -19,7 +19,7 @@ pub struct Refusal {
 }
 
 /// What each check turns away, by its number from 1.
-const WORDS: [&str; 15] = [
+const WORDS: [&str; 16] = [
     "the file is shorter than 24 bytes",
     "a count is above its limit",
     "an offset or the file's length differs from the layout",
@@ -35,6 +35,7 @@ const WORDS: [&str; 15] = [
     "a position's lots are 0, below -1,000,000 or above 1,000,000",
     "the amounts slice has fewer places than the file has positions",
     "a tick value is asked for where the price one tick higher is above 100.0000",
+    "two positions agree in account and mark",
 ];
 
 impl Refusal {
@@ -65,7 +66,7 @@ impl Refusal {
 ///
 /// ```
 /// assert_eq!(citronreef::words(12), "a position names no mark");
-/// assert_eq!(citronreef::words(16), "");
+/// assert_eq!(citronreef::words(17), "");
 /// ```
 pub fn words(number: u32) -> &'static str {
     (number as usize).checked_sub(1).and_then(|place| WORDS.get(place)).copied().unwrap_or("")

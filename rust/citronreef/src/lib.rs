@@ -72,11 +72,11 @@ pub fn settle(file: &[u8], amounts: &mut [i64]) -> Result<Settled, Refusal> {
     unsafe { sys::citronreef_settle(file.as_ptr(), file.len(), amounts.as_mut_ptr(), amounts.len()) }.answer()
 }
 
-/// The prices of the mark with this index of a day file that passes checks 1 to 13, the correction that decides, and the change
-/// in value of one contract. A file that does not pass is refused as `settle` refuses it; a mark that it does not have is refused
-/// with 12, and the index is the one asked for. So 12 has two meanings here: where [`find`] finds 12, a position of the file names
-/// no mark, and where it does not, the file has no such mark. The words of a [`Refusal`] go by its number alone and tell of the
-/// first.
+/// The prices of the mark with this index of a day file that passes checks 1 to 13 and 16, the correction that decides, and the
+/// change in value of one contract. A file that does not pass is refused as `settle` refuses it; a mark that it does not have is
+/// refused with 12, and the index is the one asked for. So 12 has two meanings here: where [`find`] finds 12, a position of the file
+/// names no mark, and where it does not, the file has no such mark. The words of a [`Refusal`] go by its number alone and tell of
+/// the first.
 ///
 /// ```
 /// use citronreef::records::{Correction, Day, Mark};
@@ -99,7 +99,7 @@ pub fn mark(file: &[u8], mark: usize) -> Result<MarkPrices, Refusal> {
     unsafe { sys::citronreef_mark(file.as_ptr(), file.len(), mark) }.answer()
 }
 
-/// The first record of a day file where the condition of the check with this number, 1 to 13, holds; none where it holds at
+/// The first record of a day file where the condition of the check with this number, 1 to 13 or 16, holds; none where it holds at
 /// nothing that is looked at, and for a number of no check. Each condition is looked for by itself, so that one may be found that
 /// vanishes once an earlier one is mended.
 ///
@@ -120,7 +120,7 @@ pub fn mark(file: &[u8], mark: usize) -> Result<MarkPrices, Refusal> {
 /// assert_eq!(find(&day.bytes(), 7), Some(0));
 /// assert_eq!(find(&day.bytes(), 8), None);
 /// assert_eq!(find(&day.bytes(), 13), Some(1));
-/// assert_eq!(find(&day.bytes(), 14), None);
+/// assert_eq!((find(&day.bytes(), 14), find(&day.bytes(), 16)), (None, None));
 /// // A file that is cut short has one whole position, and that one passes.
 /// assert_eq!((find(&day.bytes()[..50], 3), find(&day.bytes()[..50], 13)), (Some(0), None));
 /// ```

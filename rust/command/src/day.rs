@@ -15,7 +15,7 @@ impl Section {
         match number {
             4..=8 => Some(Section::Marks),
             9..=11 => Some(Section::Corrections),
-            12..=13 => Some(Section::Positions),
+            12..=13 | 16 => Some(Section::Positions),
             _ => None,
         }
     }

@@ -68,8 +68,18 @@ fn lots(random: &mut Random) -> i32 {
     }
 }
 
-fn position(random: &mut Random, marks: usize) -> Position {
-    Position { account: random.number() as u32, mark: random.below(marks) as u32, lots: lots(random) }
+/// Positions of different accounts or marks. Some accounts have more than one.
+fn positions(random: &mut Random, marks: usize, count: usize) -> Vec<Position> {
+    let mut seen = HashSet::new();
+    let mut positions = Vec::with_capacity(count);
+    while positions.len() < count {
+        let account = if random.one_in(3) { random.number() as u32 } else { random.below(count) as u32 };
+        let mark = random.below(marks) as u32;
+        if seen.insert((account, mark)) {
+            positions.push(Position { account, mark, lots: lots(random) });
+        }
+    }
+    positions
 }
 
 /// A day with these counts that passes every check. Without marks it has no corrections and no positions.
@@ -85,7 +95,7 @@ pub fn day_of_products(random: &mut Random, products: &[Product], counts: [usize
         return Day::default();
     }
     let corrections = corrections(random, &marks, correction_count);
-    let positions = (0..position_count).map(|_| position(random, mark_count)).collect();
+    let positions = positions(random, mark_count, position_count);
     Day { marks, corrections, positions }
 }
 
@@ -135,11 +145,14 @@ fn damage_correction(random: &mut Random, day: &mut Day) -> Option<()> {
 
 fn damage_position(random: &mut Random, day: &mut Day) -> Option<()> {
     let index = some_index(random, &day.positions)?;
+    let other = day.positions[random.below(day.positions.len())];
     let marks = day.marks.len() as u32;
     let position = &mut day.positions[index];
-    match random.below(2) {
-        0 => position.mark = random.pick(&[0, marks - 1, marks, marks + 1, u32::MAX]),
-        _ => position.lots = random.pick(&[0, MAX_LOTS, MAX_LOTS + 1, -MAX_LOTS, -MAX_LOTS - 1, i32::MIN, i32::MAX]),
+    match random.below(6) {
+        0 | 1 => position.mark = random.pick(&[0, marks - 1, marks, marks + 1, u32::MAX]),
+        2 | 3 => position.lots = random.pick(&[0, MAX_LOTS, MAX_LOTS + 1, -MAX_LOTS, -MAX_LOTS - 1, i32::MIN, i32::MAX]),
+        4 => position.account = other.account,
+        _ => *position = Position { lots: random.pick(&[position.lots, other.lots]), ..other },
     }
     Some(())
 }

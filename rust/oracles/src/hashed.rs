@@ -1,11 +1,11 @@
 //! The same job with hash tables in place of pair loops, so that no part of it is quadratic.
 
 use crate::plain;
-use citronreef::records::{Correction, Mark};
+use citronreef::records::{Correction, Mark, Position};
 use citronreef::{Refusal, Settled};
 use std::collections::hash_map::Entry;
 use std::collections::{HashMap, HashSet};
-use std::hash::{BuildHasherDefault, Hasher};
+use std::hash::{BuildHasherDefault, Hash, Hasher};
 
 /// A quick hash of one number: a product with an odd constant, its high bits folded onto the low ones.
 #[derive(Default)]
@@ -13,11 +13,15 @@ pub struct NumberHasher(u64);
 
 impl Hasher for NumberHasher {
     fn write(&mut self, bytes: &[u8]) {
-        bytes.iter().for_each(|&byte| self.write_u32(u32::from(byte)));
+        bytes.iter().for_each(|&byte| self.write_u64(u64::from(byte)));
     }
 
     fn write_u32(&mut self, number: u32) {
-        self.0 = (self.0 ^ u64::from(number)).wrapping_mul(0x9E37_79B9_7F4A_7C15);
+        self.write_u64(u64::from(number));
+    }
+
+    fn write_u64(&mut self, number: u64) {
+        self.0 = (self.0 ^ number).wrapping_mul(0x9E37_79B9_7F4A_7C15);
     }
 
     fn finish(&self) -> u64 {
@@ -31,13 +35,14 @@ fn contract(mark: &Mark) -> u32 {
     u32::from_le_bytes([mark.code[0], mark.code[1], mark.month, mark.year])
 }
 
-/// Check 8.
-fn check_contracts(marks: &[Mark]) -> Result<(), Refusal> {
-    let mut seen: HashSet<u32, Quick> = HashSet::with_capacity_and_hasher(marks.len(), Quick::default());
-    match marks.iter().position(|mark| !seen.insert(contract(mark))) {
-        Some(index) => Err(Refusal { number: 8, index }),
-        None => Ok(()),
-    }
+fn holding(position: &Position) -> u64 {
+    u64::from(position.account) | u64::from(position.mark) << 32
+}
+
+/// Check `number` over a list: the first record with the key of an earlier one.
+fn check_keys<T, K: Eq + Hash>(number: u32, records: &[T], key: impl Fn(&T) -> K) -> Result<(), Refusal> {
+    let mut seen: HashSet<K, Quick> = HashSet::with_capacity_and_hasher(records.len(), Quick::default());
+    plain::check(number, records, |record| !seen.insert(key(record)))
 }
 
 /// Check 11, and the resent count of corrections that pass it. Those before the first that clashes agree with the first of
@@ -61,9 +66,11 @@ fn check_numbers(corrections: &[Correction]) -> Result<usize, Refusal> {
 pub fn settle(file: &[u8], amounts: &mut [i64]) -> Result<Settled, Refusal> {
     let day = plain::read(file)?;
     let products = plain::check_marks(&day.marks)?;
-    check_contracts(&day.marks)?;
+    check_keys(8, &day.marks, contract)?;
     plain::check_corrections(&day.corrections, &products)?;
     let resent = check_numbers(&day.corrections)?;
-    plain::check_positions(&day.positions, day.marks.len(), amounts.len())?;
+    plain::check_positions(&day.positions, day.marks.len())?;
+    check_keys(16, &day.positions, holding)?;
+    plain::check_places(day.positions.len(), amounts.len())?;
     Ok(plain::pay(&day, &products, resent, amounts))
 }

@@ -27,7 +27,7 @@ pub fn read(file: &[u8]) -> Result<Day, Refusal> {
 }
 
 /// Check `number` over a list: the first record that fails it.
-pub fn check<T>(number: u32, records: &[T], fails: impl Fn(&T) -> bool) -> Result<(), Refusal> {
+pub fn check<T>(number: u32, records: &[T], fails: impl FnMut(&T) -> bool) -> Result<(), Refusal> {
     match records.iter().position(fails) {
         Some(index) => Err(Refusal { number, index }),
         None => Ok(()),
@@ -65,14 +65,23 @@ pub fn check_corrections(corrections: &[Correction], products: &[&Product]) -> R
     check(10, corrections, |c| c.price > PRICE_LIMIT || products[c.mark as usize].is_off_tick(c.price))
 }
 
-/// Checks 12 and 13, and then 14.
-pub fn check_positions(positions: &[Position], marks: usize, places: usize) -> Result<(), Refusal> {
+/// Checks 12 and 13.
+pub fn check_positions(positions: &[Position], marks: usize) -> Result<(), Refusal> {
     check(12, positions, |p| p.mark as usize >= marks)?;
-    check(13, positions, |p| p.lots == 0 || p.lots < -MAX_LOTS || p.lots > MAX_LOTS)?;
-    if places < positions.len() {
-        return Err(Refusal::of(14));
+    check(13, positions, |p| p.lots == 0 || p.lots < -MAX_LOTS || p.lots > MAX_LOTS)
+}
+
+/// Whether two positions are of one account and one mark. Their lots may differ.
+pub fn same_holding(position: &Position, other: &Position) -> bool {
+    position.account == other.account && position.mark == other.mark
+}
+
+/// Check 14.
+pub fn check_places(positions: usize, places: usize) -> Result<(), Refusal> {
+    match places < positions {
+        true => Err(Refusal::of(14)),
+        false => Ok(()),
     }
-    Ok(())
 }
 
 /// The final price of each mark: that of the highest-numbered correction that names it, today's where none does.
@@ -133,6 +142,8 @@ pub fn settle(file: &[u8], amounts: &mut [i64]) -> Result<Settled, Refusal> {
     check_pairs(8, &day.marks, same_contract)?;
     check_corrections(&day.corrections, &products)?;
     check_pairs(11, &day.corrections, |c, other| c.number == other.number && c != other)?;
-    check_positions(&day.positions, day.marks.len(), amounts.len())?;
+    check_positions(&day.positions, day.marks.len())?;
+    check_pairs(16, &day.positions, same_holding)?;
+    check_places(day.positions.len(), amounts.len())?;
     Ok(pay(&day, &products, resent_count(&day.corrections), amounts))
 }

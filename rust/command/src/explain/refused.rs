@@ -40,9 +40,9 @@ impl Refused<'_> {
         }
     }
 
-    /// The first earlier record that the record clashes with, for checks 8 and 11.
+    /// The first earlier record that the record clashes with, for checks 8, 11 and 16.
     fn clashing(&self, check: u32, index: usize) -> Option<usize> {
-        let (marks, corrections) = (&self.day.marks, &self.day.corrections);
+        let (marks, corrections, positions) = (&self.day.marks, &self.day.corrections, &self.day.positions);
         match check {
             8 => {
                 let mark = marks.get(index)?;
@@ -53,6 +53,11 @@ impl Refused<'_> {
                 let correction = corrections.get(index)?;
                 let clashes = |earlier: &Correction| earlier.number == correction.number && earlier != correction;
                 corrections[..index].iter().position(clashes)
+            }
+            16 => {
+                let position = positions.get(index)?;
+                let holding = (position.account, position.mark);
+                positions[..index].iter().position(|earlier| (earlier.account, earlier.mark) == holding)
             }
             _ => None,
         }

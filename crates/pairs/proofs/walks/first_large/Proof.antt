@@ -1,4 +1,4 @@
--- As many roots as there may be records, and two places below each record, fit in three times as many places, which start empty.
+-- Four roots for each record, and two places below it, fit in six times as many places as there may be records. These start empty.
 use Prim.Native.Nat.{_*_}
 use native.Mathlib.Omega.{arith}
 use Rattle.pairs.specs.Keys.{most}
@@ -9,7 +9,7 @@ use Rattle.pairs.proofs.walks.first_large.Statement.{statement}
 use Rattle.pairs.proofs.walks.first_large.Tie as tie
 
 first-in-requires : tie.Need-first-in-requires
-first-in-requires c κs = (room-in most (3 * most) (c .before .before .pre) (omega arith) (omega arith) (omega (arith, c .before .before .pre .few)), zeros (3 * most))
+first-in-requires c κs = (room-in (4 * most) (6 * most) (c .before .before .pre) (omega arith) (omega arith) (omega (arith, c .before .before .pre .few)), zeros (6 * most))
 
 pub first-large-spec : {M : Type 1} → statement M
 first-large-spec = tie.close

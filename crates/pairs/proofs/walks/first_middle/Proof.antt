@@ -1,4 +1,4 @@
--- As many roots as there may be records, and two places below each record, fit in three times as many places, which start empty.
+-- Four roots for each record, and two places below it, fit in six times as many places as there may be records. These start empty.
 use Prim.Native.Nat.{_*_}
 use native.Mathlib.Omega.{arith}
 use Rattle.pairs.specs.Walks.{middle}
@@ -9,7 +9,7 @@ use Rattle.pairs.proofs.walks.first_middle.Statement.{statement}
 use Rattle.pairs.proofs.walks.first_middle.Tie as tie
 
 first-in-requires : tie.Need-first-in-requires
-first-in-requires c κs = (room-in middle (3 * middle) (c .before .before .pre .0) (omega arith) (omega arith) (omega (arith, c .before .before .pre .1)), zeros (3 * middle))
+first-in-requires c κs = (room-in (4 * middle) (6 * middle) (c .before .before .pre .0) (omega arith) (omega arith) (omega (arith, c .before .before .pre .1)), zeros (6 * middle))
 
 pub first-middle-spec : {M : Type 1} → statement M
 first-middle-spec = tie.close

@@ -1,4 +1,4 @@
--- The 32 bits are below 2^32, so that their product with at most 4,096 roots fits, and divided by 2^32 is below the number of roots.
+-- The 32 bits are below 2^32, so that their product with the number of roots fits, and divided by 2^32 is below the number of roots.
 use native.Mathlib.Nat.{mul-le-mul-left, mul-lt-mul-of-pos-right}
 use native.Mathlib.Omega.{arith}
 use Rattle.pairs.specs.Walks.{rootOf}
