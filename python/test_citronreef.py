@@ -158,6 +158,15 @@ class DayFiles(unittest.TestCase):
             self.assertEqual((refusal.number, refusal.index, refusal.words), (12, index, said))
             self.assertEqual(pickle.loads(pickle.dumps(refusal)).words, said)
 
+    def test_one_account_twice_in_a_mark(self):
+        for lots in (10, -4):
+            whole = file(positions=[position(), position(account=12), position(lots)])
+            with self.subTest(lots=lots), self.assertRaises(Refusal) as raised:
+                citronreef.settle(whole)
+            self.assertEqual(str(raised.exception), "refused 16 at 2: two positions agree in account and mark")
+            self.assertEqual(answer(citronreef.mark, whole, 0), (16, 2))
+            self.assertEqual(citronreef.sheet(whole), "refused 16 at 2\n")
+
     def test_correction_with_number_0_decides(self):
         self.assertEqual(citronreef.mark(file(corrections=[correction(0, price=949_900)]), 0).corrected_by, 0)
 
@@ -198,7 +207,7 @@ class DayFiles(unittest.TestCase):
 class Tables(unittest.TestCase):
     def test_words(self):
         rows = re.findall(r"^\| (\d+) \| (.*?) \|", (ROOT / "docs" / "REFUSALS.md").read_text(), re.MULTILINE)
-        self.assertEqual([(int(number), words) for number, words in rows], list(enumerate(citronreef.WORDS, 1)))
+        self.assertEqual(sorted((int(number), words) for number, words in rows), list(enumerate(citronreef.WORDS, 1)))
 
     def test_header(self):
         header = (ROOT / "include" / "citronreef.h").read_text()

@@ -11,6 +11,7 @@ from random_days import Random, random_day
 from records import HEADER_SIZE, MAX_MARKS, RECORD_SIZE, Correction, Day, Mark, Position, file_of
 from settlement import MAX_LOTS, MAX_YEAR, after_clash, agree_in_contract, clash, layout_refusal
 
+CHECKS = (*range(1, 14), 16)
 DAMAGED = 3_000
 
 
@@ -30,8 +31,9 @@ def bad_date(mark):
 
 
 def conditions(day):
-    """Checks 4 to 13 by their numbers: how many records, and whether the condition holds at record i, whatever the others say."""
+    """Checks 4 to 13 and 16 by number: how many records, and whether the condition holds at record i, whatever the others say."""
     marks, corrections, positions = day.marks, day.corrections, day.positions
+    pairs = [(held.account, held.mark) for held in positions]
 
     def named(record):
         return marks[record.mark] if record.mark < len(marks) else None
@@ -53,6 +55,7 @@ def conditions(day):
         11: (len(corrections), after_clash(corrections, clash)),
         12: (len(positions), lambda i: named(positions[i]) is None),
         13: (len(positions), breaks_13),
+        16: (len(positions), lambda i: pairs[i] in pairs[:i]),
     }
 
 
@@ -76,18 +79,19 @@ def worked_out(whole):
 
 def found(whole):
     """The same by the library."""
-    answers = {check: citronreef.find(whole, check) for check in range(1, 14)}
+    answers = {check: citronreef.find(whole, check) for check in CHECKS}
     return {check: index for check, index in answers.items() if index is not None}
 
 
 def damaged(random):
-    """A small day file with some bytes changed, some records copied, and perhaps cut off."""
+    """A small day file with some bytes changed, some records copied, with or without their last number, and perhaps cut off."""
     whole = bytearray(file_of(random_day(random.below(2**32) + 1, 1 + random.below(5), random.below(6), random.below(6))))
     for _ in range(random.below(4)):
         whole[random.below(len(whole))] = random.below(256)
     for _ in range(random.below(3)):
         start, other = (RECORD_SIZE * (2 + random.below(len(whole) // RECORD_SIZE - 2)) for _ in range(2))
-        whole[start : start + RECORD_SIZE] = whole[other : other + RECORD_SIZE]
+        size = RECORD_SIZE - 4 * random.below(2)
+        whole[start : start + size] = whole[other : other + size]
     return bytes(whole[: random.below(len(whole) + 1)] if random.below(6) == 0 else whole)
 
 
@@ -98,7 +102,7 @@ class Finding(unittest.TestCase):
             with self.subTest(file=k):
                 self.assertEqual(found(whole), worked_out(whole))
             met |= found(whole).keys()
-        self.assertEqual(met, set(range(1, 14)))
+        self.assertEqual(met, set(CHECKS))
 
     def test_first_of_the_refusal(self):
         """What a refused file is refused with is found, at its record, and nothing before it."""
@@ -111,23 +115,36 @@ class Finding(unittest.TestCase):
                     self.assertEqual(holding, {})
 
     def test_three_mistakes_in_one_file(self):
-        whole = file([mark(), mark(b"BB", today=950_001)], [correction(mark=2)], [position(), position(0)])
+        whole = file([mark(), mark(b"BB", today=950_001)], [correction(mark=2)], [position(), position(0, account=12)])
         self.assertEqual(found(whole), {7: 1, 9: 0, 13: 1})
+
+    def test_repeated_position(self):
+        """The first that repeats an earlier one, whatever its lots and whether its mark is there."""
+        for positions, holding in (
+            ([position(), position(account=12)], {}),
+            ([position(), position(-4)], {16: 1}),
+            ([position(), position(account=12), position(-4), position()], {16: 2}),
+            ([position(), position(0)], {13: 1, 16: 1}),
+            ([position(), position(mark=7), position(mark=7)], {12: 1, 16: 2}),
+        ):
+            self.assertEqual(found(file(positions=positions)), holding)
 
     def test_counts_above_a_limit(self):
         whole = file(contracts(MAX_MARKS + 1), [correction(mark=999)], [position(0)])
         self.assertEqual(found(whole), {2: 0})
 
     def test_what_is_looked_at(self):
-        whole = file([mark()], [], [position(), position(0)])
+        whole = file([mark()], [], [position(), position(0, account=12)])
         self.assertEqual(found(b"\xff" * (HEADER_SIZE - 1)), {1: 0})
         self.assertEqual(found(whole[:12] + b"\xff\xff" + whole[14:]), {3: 0, 13: 1})
         self.assertEqual(found(whole[:-1]), {3: 0})
         self.assertEqual(found(whole + bytes(RECORD_SIZE)), {3: 0, 13: 1})
 
     def test_no_check(self):
-        for check in (-1, 0, 14, 15, 16, 2**32, 2**32 + 1, 2**64):
+        whole = file(positions=[position(0), position(0)])
+        for check in (-1, 0, 14, 15, 17, 2**32, 2**32 + 1, 2**32 + 16, 2**64):
             self.assertIsNone(citronreef.find(b"", check))
+            self.assertIsNone(citronreef.find(whole, check))
         self.assertEqual(citronreef.find(b"", 1), 0)
         for check in (1.0, "1", None, True):
             with self.assertRaises(TypeError):

@@ -13,10 +13,10 @@ from pathlib import Path
 
 import calculator
 from calculator import PRICE_LIMIT, PRODUCTS, Bill, Bond, CashRate
-from days import contracts, file, position
+from days import contracts, day, file, held_by_many, position
 from records import HEADER_SIZE, MAX_CORRECTIONS, MAX_MARKS, MAX_POSITIONS, RECORD_SIZE
 from require import require
-from settlement import INPUT_LIMIT, MAX_LOTS, Refused, settle, sheet
+from settlement import INPUT_LIMIT, MAX_LOTS, Refused, record_checks, settle, sheet
 from theorems import ACCURACY, ladder_figure
 
 ROOT = Path(__file__).resolve().parent.parent
@@ -192,14 +192,17 @@ def check_worked():
 
 
 def check_refusals():
-    """The numbers 1 to 15 stand in their order, and each names the records that docs/REFUSALS.md names."""
+    """The numbers 1 to 16 are told one by one, and each names the records that docs/REFUSALS.md names; and so is the order."""
     items = re.findall(r"^(\d+)\. (.*(?:\n +.*)*)", under(REFUSAL), re.MULTILINE)
-    require([int(n) for n, _ in items] == list(range(1, 16)), "the numbers 1 to 15, in their order")
+    require([int(n) for n, _ in items] == list(range(1, 17)), "the numbers 1 to 16")
     words = rows((ROOT / "docs" / "REFUSALS.md").read_text(), "number", "words", "the index counts")
-    for (n, text), (other, _, records) in zip(items, words):
-        index = re.search(r"Index: (\w+)(, the later of the two)?\.", " ".join(text.split()))
-        require(n == other and index, "the index of", n)
-        require(index.group(1) == records.split(",")[0], "the section of", n)
+    order = [*range(1, 4), *(n for n, _, _ in record_checks(day())), 14]
+    says(f"of a file it is {' '.join(map(str, order))}.")
+    require([int(n) for n, _, _ in words] == [*order, 15], "the order of docs/REFUSALS.md")
+    counted = {n: records for n, _, records in words}
+    for n, text in items:
+        index, records = re.search(r"Index: (\w+)(, the later of the two)?\.", " ".join(text.split())), counted[n]
+        require(index and index.group(1) == records.split(",")[0], "the section of", n)
         require(bool(index.group(2)) == records.endswith("the second of the two"), "which of two records", n)
         require("Look " in text, "what a person looks at for", n)
 
@@ -214,7 +217,8 @@ def check_answers():
         f"{MAX_MARKS + 1} marks": file(contracts(MAX_MARKS + 1)),
         f"lots {MAX_LOTS:,}": file(positions=[position(MAX_LOTS)]),
         f"lots {MAX_LOTS + 1:,}": file(positions=[position(MAX_LOTS + 1)]),
-        "N = 2 and a slice of one place": file(positions=[position(), position()]),
+        "N = 2 and a slice of one place": file(positions=held_by_many(10, 10)),
+        "the same, both of one account in one mark": file(positions=[position(), position()]),
     }
     table = rows(under(FIGURES), "file", "answer")
     require([name for name, _ in table] == list(files), "the files that are answered")

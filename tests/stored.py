@@ -5,7 +5,7 @@ Every list below gives (name, file) or (name, file, places), where places is the
 import struct
 
 from calculator import LARGEST_U32, PRICE_LIMIT, PRODUCTS
-from days import DOCUMENT_01_DAY, contracts, correction, day, file, mark, position, with_header
+from days import DOCUMENT_01_DAY, contracts, correction, day, file, held_by_many, mark, position, with_header
 from random_days import random_day
 from records import MAX_CORRECTIONS, MAX_MARKS, MAX_POSITIONS, file_of
 from settlement import MAX_LOTS, MAX_YEAR
@@ -33,8 +33,8 @@ LAYOUT = [
     ("marks_above_limit", file(contracts(MAX_MARKS + 1))),
     ("corrections_at_limit", file(corrections=[correction(k) for k in range(MAX_CORRECTIONS)])),
     ("corrections_above_limit", file(corrections=[correction(k) for k in range(MAX_CORRECTIONS + 1)])),
-    ("positions_at_limit", file([mark(b"IR", 3, 18, 0, PRICE_LIMIT)], [], [position(MAX_LOTS)] * MAX_POSITIONS)),
-    ("positions_above_limit", file(positions=[position()] * (MAX_POSITIONS + 1))),
+    ("positions_at_limit", file([mark(b"IR", 3, 18, 0, PRICE_LIMIT)], [], held_by_many(*[MAX_LOTS] * MAX_POSITIONS))),
+    ("positions_above_limit", file(positions=held_by_many(*[10] * (MAX_POSITIONS + 1)))),
     ("largest_counts", struct.pack("<6I", LARGEST_U32, 24, LARGEST_U32, 12, LARGEST_U32, 0)),
     ("counts_that_would_wrap", wrapping_counts()),
     ("marks_offset_high", with_header(file_of(DOCUMENT_01_DAY), m_at=25)),
@@ -95,18 +95,36 @@ CORRECTIONS = [
 ]
 
 
-# Checks 12 to 14: positions and places
+# Checks 12, 13, 16 and 14: positions and places
+
+
+def repeated_at(*places, count):
+    """So many positions in one mark; those at these places repeat the account of the first, with other lots."""
+    positions = held_by_many(*range(1, count + 1))
+    for place in places:
+        positions[place] = position(-place)
+    return positions
+
 
 POSITIONS = [
     ("no_marks_with_positions", file([], [])),
     ("position_names_no_mark", file(TWO_MARKS, [], [position(), position(mark=2)])),
-    ("lots_0", file(positions=[position(), position(-3), position(0)])),
+    ("lots_0", file(positions=held_by_many(10, -3, 0))),
     ("most_lots_long", file(positions=[position(MAX_LOTS)])),
     ("most_lots_short", file(positions=[position(-MAX_LOTS)])),
     ("one_lot_too_many_long", file(positions=[position(MAX_LOTS + 1)])),
     ("one_lot_too_many_short", file(positions=[position(-MAX_LOTS - 1)])),
     ("smallest_i32_lots", file(positions=[position(SMALLEST_I32)])),
+    ("two_accounts_in_a_mark", file(positions=[position(), position(account=12)])),
+    ("one_account_in_two_marks", file(TWO_MARKS, [], [position(), position(mark=1)])),
+    ("account_and_mark_exchanged", file(TWO_MARKS, [], [position(mark=1, account=0), position(mark=0, account=1)])),
+    ("accounts_apart_in_the_highest_bit", file(positions=[position(), position(account=11 + 2**31)])),
     ("one_account_twice_in_a_mark", file(positions=[position(10), position(10)])),
+    ("one_account_twice_with_other_lots", file(positions=[position(10), position(-4)])),
+    ("one_account_three_times_in_a_mark", file(positions=[position(10), position(10), position(10)])),
+    ("first_of_two_repeated_positions", file(positions=[position(account=k) for k in (5, 6, 7, 6, 5)])),
+    ("repeated_position_far_from_its_first", file(positions=repeated_at(1_500, 1_501, count=2_000))),
+    ("last_of_all_positions_repeated", file(positions=repeated_at(MAX_POSITIONS - 1, count=MAX_POSITIONS))),
     ("as_many_places_as_positions", file_of(DOCUMENT_01_DAY), 2),
     ("one_place_too_few", file_of(DOCUMENT_01_DAY), 1),
 ]
@@ -125,7 +143,10 @@ ORDER = [
     ("correction_price_before_clash", file(corrections=[correction(), correction(price=0), correction(8, price=1)])),
     ("clash_before_position_mark", file([mark()], [correction(), correction(price=0)], [position(mark=1)])),
     ("position_mark_before_lots", file(positions=[position(0), position(mark=1)])),
-    ("lots_before_places", file(positions=[position(), position(0)]), 0),
+    ("position_mark_before_repeated_position", file(positions=[position(mark=1), position(mark=1)])),
+    ("lots_before_repeated_position", file(positions=[position(), position(), position(0, account=12)])),
+    ("lots_before_places", file(positions=held_by_many(10, 0)), 0),
+    ("repeated_position_before_places", file(positions=[position(), position()]), 1),
     ("offset_before_code", with_header(file([mark(b"ZZ")]), n_at=0)),
 ]
 
@@ -133,10 +154,10 @@ ORDER = [
 # Accepted files: the case of document 01, every product, resent corrections, a full file
 
 EVERY_PRODUCT = [mark(code, 12, 30, 945_000 + 600 * k, 951_000 - 700 * k) for k, code in enumerate(PRODUCTS)]
-BOTH_WAYS = [position(lots * (k + 1), k, 100 * k) for k in range(len(PRODUCTS)) for lots in (13, -7)]
+BOTH_WAYS = [p for k in range(len(PRODUCTS)) for p in held_by_many(13 * (k + 1), -7 * (k + 1), mark=k, first=100 * k)]
 
 FIRST_LIST = [correction(4, 0, 950_400), correction(9, 1, 940_900), correction(2, 0, 950_200)]
-HELD = [position(25), position(-5, 1), position(-3), position(8, 1)]
+HELD = [position(25), position(-5, 1), position(-3, 0, 12), position(8, 1, 12)]
 
 
 def resent(*order):
@@ -149,7 +170,7 @@ ACCEPTED = [
     ("marks_alone", file(EVERY_PRODUCT, [], [])),
     ("every_product", file(EVERY_PRODUCT, [], BOTH_WAYS)),
     ("every_product_at_yield_0", file([mark(code, today=PRICE_LIMIT) for code in PRODUCTS], [], BOTH_WAYS)),
-    ("equal_prices", file([mark(today=950_000)], [], [position(), position(-10)])),
+    ("equal_prices", file([mark(today=950_000)], [], held_by_many(10, -10))),
     ("corrected_to_previous_price", file(corrections=[correction(price=950_000)])),
     ("first_list", resent(0, 1, 2)),
     ("copies_before", resent(2, 1, 0, 1, 2)),

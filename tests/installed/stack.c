@@ -26,7 +26,7 @@ static void sheet(void) { citronreef_sheet(file, length, amounts, POSITIONS, out
 
 static void find(void)
 {
-    for (uint32_t check = 0; check <= 14; check++)
+    for (uint32_t check = 0; check <= 16; check++)
         citronreef_find(file, length, check);
 }
 
@@ -114,6 +114,7 @@ static const struct { uint64_t check; size_t at; uint32_t number; } faults[] = {
     {4, CORRECTIONS_AT - 12, 0}, {5, CORRECTIONS_AT - 12, 0xFF045249}, {6, CORRECTIONS_AT - 8, UINT32_MAX},
     {7, CORRECTIONS_AT - 4, 950001}, {8, CORRECTIONS_AT - 12, 0x00035249}, {9, POSITIONS_AT - 8, MARKS},
     {10, POSITIONS_AT - 4, 950001}, {11, POSITIONS_AT - 12, 0}, {12, FILE_SIZE - 8, MARKS}, {13, FILE_SIZE - 4, 0},
+    {16, FILE_SIZE - 12, MARKS - 1},
 };
 
 int main(void)

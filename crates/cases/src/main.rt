@@ -162,7 +162,7 @@ fn corrections() {
     case(b"no_marks_with_corrections");
 }
 
-// Checks 12 to 14.
+// Checks 12, 13, 16 and 14.
 fn positions() {
     case(b"no_marks_with_positions");
     case(b"position_names_no_mark");
@@ -172,7 +172,16 @@ fn positions() {
     case(b"one_lot_too_many_long");
     case(b"one_lot_too_many_short");
     case(b"smallest_i32_lots");
+    case(b"two_accounts_in_a_mark");
+    case(b"one_account_in_two_marks");
+    case(b"account_and_mark_exchanged");
+    case(b"accounts_apart_in_the_highest_bit");
     case(b"one_account_twice_in_a_mark");
+    case(b"one_account_twice_with_other_lots");
+    case(b"one_account_three_times_in_a_mark");
+    case(b"first_of_two_repeated_positions");
+    case(b"repeated_position_far_from_its_first");
+    case(b"last_of_all_positions_repeated");
     case_with(b"as_many_places_as_positions", 2);
     case_with(b"one_place_too_few", 1);
 }
@@ -189,7 +198,10 @@ fn order() {
     case(b"correction_price_before_clash");
     case(b"clash_before_position_mark");
     case(b"position_mark_before_lots");
+    case(b"position_mark_before_repeated_position");
+    case(b"lots_before_repeated_position");
     case_with(b"lots_before_places", 0);
+    case_with(b"repeated_position_before_places", 1);
     case(b"offset_before_code");
 }
 

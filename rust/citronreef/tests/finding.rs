@@ -5,7 +5,8 @@ use citronreef::{bracket, find, mark, settle, value, Refusal};
 
 const MARK: Mark = Mark { code: *b"IR", month: 3, year: 27, previous: 950_000, today: 950_100 };
 const GOOD: Position = Position { account: 1, mark: 0, lots: 1 };
-const NO_LOTS: Position = Position { account: 1, mark: 0, lots: 0 };
+const AGAIN: Position = Position { account: 1, mark: 0, lots: 5 };
+const NO_LOTS: Position = Position { account: 2, mark: 0, lots: 0 };
 const NO_MARK: Position = Position { account: 1, mark: 7, lots: 1 };
 
 fn file(positions: &[Position]) -> Vec<u8> {
@@ -45,6 +46,18 @@ fn whole_records_alone() {
     assert_eq!(found(&whole), [(13, 1)]);
     assert_eq!(found(&whole[..whole.len() - 1]), [(3, 0)]);
     assert_eq!(found(&[&whole[..], &[0; 12]].concat()), [(3, 0), (13, 1)]);
+}
+
+#[test]
+fn positions_of_one_account_and_mark() {
+    assert_eq!(found(&file(&[GOOD, AGAIN])), [(16, 1)]);
+    assert_eq!(found(&file(&[GOOD, NO_LOTS, AGAIN, NO_LOTS])), [(13, 1), (16, 2)]);
+    assert_eq!(found(&file(&[NO_MARK, GOOD, NO_MARK, AGAIN])), [(12, 0), (16, 2)]);
+    let whole = file(&[GOOD, AGAIN]);
+    assert_eq!(found(&whole[..whole.len() - 1]), [(3, 0)]);
+    assert_eq!(found(&[&whole[..], &[0]].concat()), [(3, 0), (16, 1)]);
+    assert_eq!(settle(&whole, &mut []), Err(Refusal { number: 16, index: 1 }));
+    assert_eq!(mark(&whole, 0), Err(Refusal { number: 16, index: 1 }));
 }
 
 #[test]

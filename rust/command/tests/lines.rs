@@ -33,6 +33,22 @@ fn a_text_is_told_by_its_lines() {
     has_lines(&forgotten.out, &["This looks like a readable text: try --text."]);
 }
 
+/// One line names the mark by its contract, the other by its index.
+#[test]
+fn an_account_that_is_keyed_twice() {
+    let text = "mark IR 3 27 95.00 95.01\nposition 1001 IR/3/27 250\nposition 1002 @0 250\n# again\nposition 1001 @0 250\n";
+    told(
+        text,
+        &[
+            "refused 16 at 2: two positions agree in account and mark",
+            "  position 0 (the 1st of 3), line 2 of the text, 12 bytes from byte 36 of the file",
+            "  position 2 (the 3rd of 3), line 5 of the text, 12 bytes from byte 60 of the file",
+            "    account         1001          <-- the same in both",
+            "    mark            0, IR Mar 27  <-- the same in both",
+        ],
+    );
+}
+
 /// The header counts other records than the text has: the second mark is cut as a correction, and the correction as a position.
 #[test]
 fn a_header_that_counts_otherwise() {

@@ -4,10 +4,10 @@ mod days;
 mod process;
 mod table;
 
-use citronreef::records::{header, Correction, Day, Mark, MAX_LOTS, MAX_MARKS, MAX_POSITIONS, PRICE_LIMIT, RECORD_SIZE};
+use citronreef::records::*;
 use citronreef::{settle, Refusal};
 use days::{damaged, sample};
-use oracles::plain::{read, same_contract};
+use oracles::plain::{read, same_contract, same_holding};
 use oracles::products::YEAR_LIMIT;
 use oracles::random::Random;
 use process::{run, Ran};
@@ -176,6 +176,23 @@ fn positions() {
     }
 }
 
+#[test]
+fn two_positions_of_one_account_and_mark() {
+    edited(
+        |day| day.positions[5] = Position { lots: 7, ..day.positions[1] },
+        16,
+        5,
+        &[
+            "  position 1 (the 2nd of 7), 12 bytes from byte 156 of the file",
+            "    account         1001          <-- the same in both",
+            "    mark            4, XT Mar 27  <-- the same in both",
+            "    lots            -40",
+            "  position 5 (the 6th of 7), 12 bytes from byte 204 of the file",
+            "    lots            7",
+        ],
+    );
+}
+
 /// The records that an explanation shows: the index and the byte of each.
 fn shown(text: &str) -> Vec<(usize, usize)> {
     let heads = text.lines().filter(|line| line.contains(" (the "));
@@ -199,6 +216,7 @@ fn involved(day: &Day, Refusal { number, index }: Refusal) -> Vec<(usize, usize)
             (starts[3], (0..index).find(|&other| clashes(&day.corrections[other])))
         }
         9..=10 => (starts[3], None),
+        16 => (starts[5], (0..index).find(|&other| same_holding(&day.positions[other], &day.positions[index]))),
         _ => (starts[5], None),
     };
     earlier.into_iter().chain([index]).map(|index| (index, start + RECORD_SIZE * index)).collect()
@@ -208,7 +226,7 @@ fn involved(day: &Day, Refusal { number, index }: Refusal) -> Vec<(usize, usize)
 #[test]
 fn damaged_files() {
     let mut random = Random::new(3_039_177_861);
-    let mut met = [0; 14];
+    let mut met = [0; 17];
     for _ in 0..1_500 {
         let file = damaged(&mut random);
         if let Err(refusal) = settle(&file, &mut [0; MAX_POSITIONS]) {
@@ -219,5 +237,5 @@ fn damaged_files() {
             met[refusal.number as usize] += 1;
         }
     }
-    assert!(met[1..].iter().all(|&times| times > 2), "refused by checks 1 to 13: {:?}", &met[1..]);
+    assert!((1..=13).chain([16]).all(|number| met[number] > 2), "refused by checks 1 to 13 and 16: {met:?}");
 }

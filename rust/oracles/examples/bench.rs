@@ -2,7 +2,7 @@
 //!
 //!   rt check sheet && rt staticlib citronreef && cd rust && cargo build --release --examples && cargo run --release --example bench
 
-use citronreef::records::{Day, MAX_CORRECTIONS, MAX_MARKS, MAX_POSITIONS};
+use citronreef::records::{u32_at, Day, MAX_CORRECTIONS, MAX_MARKS, MAX_POSITIONS, RECORD_SIZE};
 use citronreef::{settle, tick_value, value, write_sheet, Refusal, Settled, SHEET_SIZE};
 use oracles::days::{day_of, day_of_products};
 use oracles::products::{self, Product, PRICE_LIMIT, PRODUCTS};
@@ -29,15 +29,18 @@ fn black_box<T>(value: T) -> T {
     }
 }
 
-/// The median times of some calls in nanoseconds. Each run makes the calls in turn, so that all meet the same machine.
-fn medians<const K: usize>(mut call: impl FnMut(usize)) -> [f64; K] {
+/// How long a call takes, in nanoseconds.
+fn time(call: impl FnOnce()) -> f64 {
+    let start = Instant::now();
+    call();
+    start.elapsed().as_nanos() as f64
+}
+
+/// The medians of some times. Each run takes them in turn, so that all meet the same machine.
+fn medians<const K: usize>(mut timed: impl FnMut(usize) -> f64) -> [f64; K] {
     let mut times: [Vec<f64>; K] = std::array::from_fn(|_| Vec::with_capacity(RUNS));
     for _ in 0..RUNS {
-        for (k, times) in times.iter_mut().enumerate() {
-            let start = Instant::now();
-            call(k);
-            times.push(start.elapsed().as_nanos() as f64);
-        }
+        times.iter_mut().enumerate().for_each(|(k, times)| times.push(timed(k)));
     }
     times.map(|mut times| {
         times.sort_by(f64::total_cmp);
@@ -54,16 +57,24 @@ fn with_distinct_numbers(mut day: Day) -> Day {
     day
 }
 
-/// The times of the three builds on a day, in microseconds: proved, plain, hashed.
-fn settle_times(day: &Day) -> [f64; 3] {
-    let file = day.bytes();
+/// The times of the three builds on a day, in microseconds: proved, plain, hashed. What is done to the file before each call is not
+/// timed.
+fn settle_times_after(day: &Day, mut before: impl FnMut(&mut [u8])) -> [f64; 3] {
+    let mut file = day.bytes();
     let mut amounts = vec![0; MAX_POSITIONS];
     let builds: [Settle; 3] = [settle, plain::settle, hashed::settle];
     let nanoseconds = medians(|k| {
-        let answer = builds[k](black_box(&file), black_box(&mut amounts));
-        assert!(answer.is_ok());
+        before(&mut file);
+        time(|| {
+            let answer = builds[k](black_box(&file), black_box(&mut amounts));
+            assert!(answer.is_ok());
+        })
     });
     nanoseconds.map(|time| time / 1_000.0)
+}
+
+fn settle_times(day: &Day) -> [f64; 3] {
+    settle_times_after(day, |_| {})
 }
 
 fn print_settle_row(label: &str, [proved, plain, hashed]: [f64; 3]) {
@@ -71,12 +82,17 @@ fn print_settle_row(label: &str, [proved, plain, hashed]: [f64; 3]) {
     println!("{label:>21} {proved:>9.1} {plain:>9.1} {to_plain:>9.2} {hashed:>9.1} {to_hashed:>9.2}");
 }
 
-/// Gives the corrections numbers whose products with the library's multiplier are these. The multiplier is odd, so it has an inverse.
-fn with_products(mut day: Day, product: impl Fn(u32) -> u32) -> Day {
+/// The number whose product with the library's multiplier is this. The multiplier is odd, so it has an inverse.
+fn of_product(product: u32) -> u32 {
     const INVERSE: u32 = 244_002_641;
     assert_eq!(INVERSE.wrapping_mul(2_654_435_761), 1);
+    product.wrapping_mul(INVERSE)
+}
+
+/// Gives the corrections numbers with these products.
+fn with_products(mut day: Day, product: impl Fn(u32) -> u32) -> Day {
     for (index, correction) in day.corrections.iter_mut().enumerate() {
-        correction.number = product(index as u32).wrapping_mul(INVERSE);
+        correction.number = of_product(product(index as u32));
     }
     day
 }
@@ -97,7 +113,39 @@ fn with_equal_corrections(mut day: Day) -> Day {
     day
 }
 
-/// Days that are not like the others, of 4,096 positions but for the last.
+/// Gives the positions these accounts and marks.
+fn with_holdings(mut day: Day, holding: impl Fn(u32) -> (u32, u32)) -> Day {
+    for (index, position) in day.positions.iter_mut().enumerate() {
+        (position.account, position.mark) = holding(index as u32);
+    }
+    day
+}
+
+/// All positions start at one root of the library's tree, and those of 256 marks are told apart by the mark alone, after 32 bits.
+fn with_long_walks_of_positions(day: Day) -> Day {
+    with_holdings(day, |index| {
+        let (mark, scattered) = (index % 256, index / 256 << 12);
+        (of_product(scattered.wrapping_sub(mark.wrapping_mul(2_246_822_519))), mark)
+    })
+}
+
+/// A number without order for each number, another for another.
+fn scattered(number: u32) -> u32 {
+    let number = (number ^ (number >> 16)).wrapping_mul(0x85EB_CA6B);
+    let number = (number ^ (number >> 13)).wrapping_mul(0xC2B2_AE35);
+    number ^ (number >> 16)
+}
+
+/// Gives each position of a file an account of its own, none of them foreseen.
+fn renew_accounts(random: &mut Random, file: &mut [u8]) {
+    let (first, start) = (random.number() as u32, u32_at(file, 20) as usize);
+    for (index, record) in file[start..].chunks_exact_mut(RECORD_SIZE).enumerate() {
+        let account = scattered(first.wrapping_add(index as u32));
+        record[..4].copy_from_slice(&account.to_le_bytes());
+    }
+}
+
+/// Days that are not like the others, of 4,096 positions but for the last three.
 fn other_days(random: &mut Random) -> Vec<(&'static str, Day)> {
     let full = [MAX_MARKS, MAX_CORRECTIONS, MAX_POSITIONS];
     let of = |random: &mut Random, codes: &[[u8; 2]]| {
@@ -113,8 +161,24 @@ fn other_days(random: &mut Random) -> Vec<(&'static str, Day)> {
         ("longest bonds only", of(random, &[*b"XX"])),
         ("1 mark", with_distinct_numbers(day_of(random, 1, MAX_CORRECTIONS, MAX_POSITIONS))),
         ("1 mark, uncorrected", day_of(random, 1, 0, MAX_POSITIONS)),
+        ("1 mark, in order", with_holdings(day_of(random, 1, 0, MAX_POSITIONS), |index| (index, 0))),
+        (
+            "256 marks an account",
+            with_holdings(day_of_products(random, &PRODUCTS, full), |index| (index / 256, index % 256)),
+        ),
+        ("long position walks", with_long_walks_of_positions(day_of_products(random, &PRODUCTS, full))),
         ("1 mark, 2 positions", day_of(random, 1, 2, 2)),
+        ("no positions", with_distinct_numbers(day_of(random, MAX_MARKS, MAX_CORRECTIONS, 0))),
+        ("1 mark, no positions", day_of(random, 1, 0, 0)),
     ]
+}
+
+/// Full days of some marks that have other accounts in each call, so that no processor learns the walks.
+fn print_renewed(random: &mut Random) {
+    for (label, marks) in [("new accounts", MAX_MARKS), ("1 mark, new accounts", 1)] {
+        let day = with_distinct_numbers(day_of(random, marks, MAX_CORRECTIONS, MAX_POSITIONS));
+        print_settle_row(label, settle_times_after(&day, |file| renew_accounts(random, file)));
+    }
 }
 
 fn print_settle() {
@@ -132,6 +196,7 @@ fn print_settle() {
     for (label, day) in other_days(&mut random) {
         print_settle_row(label, settle_times(&day));
     }
+    print_renewed(&mut random);
     let [proved, plain, hashed] = growth;
     println!("growth from N = 2048 to 4096: proved {proved:.2}, plain {plain:.2}, hashed {hashed:.2} times\n");
 }
@@ -139,10 +204,12 @@ fn print_settle() {
 /// The times of a call's two builds, over all listed prices of a product, in nanoseconds: proved, plain.
 fn call_times(builds: [Value; 2], code: [u8; 2], prices: &[u32]) -> [f64; 2] {
     let pass = |k: usize| prices.iter().filter_map(|&price| builds[k](black_box(code), black_box(price)).ok()).sum::<u64>();
-    medians(|k| {
-        black_box(pass(k));
-    })
-    .map(|time| time / prices.len() as f64)
+    let times = medians(|k| {
+        time(|| {
+            black_box(pass(k));
+        })
+    });
+    times.map(|time| time / prices.len() as f64)
 }
 
 fn print_values() {
@@ -164,11 +231,13 @@ fn sheet_times(day: &Day) -> [f64; 2] {
     let mut amounts = vec![0; MAX_POSITIONS];
     let mut out = vec![0; SHEET_SIZE];
     let nanoseconds = medians(|k| {
-        let length = match k {
-            0 => write_sheet(black_box(&file), &mut amounts, &mut out),
-            _ => sheet(black_box(&file), &mut amounts).len(),
-        };
-        assert!(black_box(length) > 0);
+        time(|| {
+            let length = match k {
+                0 => write_sheet(black_box(&file), &mut amounts, &mut out),
+                _ => sheet(black_box(&file), &mut amounts).len(),
+            };
+            assert!(black_box(length) > 0);
+        })
     });
     nanoseconds.map(|time| time / 1_000.0)
 }
@@ -189,7 +258,7 @@ fn process_times(day: &Day) -> [f64; 2] {
     let root = Path::new(env!("CARGO_MANIFEST_DIR")).ancestors().nth(2).expect("the crate stands in the repository");
     let programs = [root.join("target/bin/sheet"), root.join("target/rust/release/examples/sheet")];
     let file = day.bytes();
-    medians(|k| run(&programs[k], &file)).map(|time| time / 1_000.0)
+    medians(|k| time(|| run(&programs[k], &file))).map(|time| time / 1_000.0)
 }
 
 fn print_sheets() {

@@ -3,7 +3,7 @@
 //!
 //!   cargo run --release --example clashes
 
-use citronreef::records::Day;
+use citronreef::records::{Day, Position};
 use citronreef::settle;
 use oracles::days::{damage_record, day_of};
 use oracles::plain;
@@ -13,7 +13,7 @@ const FILES: usize = 1_000_000;
 const PLACES: usize = 12;
 const UNTOUCHED: i64 = i64::MIN + 5;
 
-/// Few numbers for many corrections, and now and then a mark like another one.
+/// Few numbers for many corrections, and now and then a mark or a position like another one.
 fn crowded(random: &mut Random) -> Day {
     let counts = [1 + random.below(6), random.below(14), random.below(10)];
     let mut day = day_of(random, counts[0], counts[1], counts[2]);
@@ -29,6 +29,10 @@ fn crowded(random: &mut Random) -> Day {
         let (from, to) = (random.below(day.marks.len()), random.below(day.marks.len()));
         day.marks[to] = day.marks[from];
     }
+    if random.one_in(4) && !day.positions.is_empty() {
+        let (from, to) = (random.below(day.positions.len()), random.below(day.positions.len()));
+        day.positions[to] = Position { lots: day.positions[to].lots, ..day.positions[from] };
+    }
     if random.one_in(4) {
         damage_record(random, &mut day);
     }
@@ -37,7 +41,7 @@ fn crowded(random: &mut Random) -> Day {
 
 fn main() {
     let mut random = Random::new(41_421_356_237);
-    let mut met = [0usize; 15];
+    let mut met = [0usize; 17];
     for _ in 0..FILES {
         let day = crowded(&mut random);
         let file = day.bytes();
@@ -47,6 +51,10 @@ fn main() {
         assert_eq!(ours, theirs, "file {file:?}");
         met[answer.map_or_else(|refusal| refusal.number as usize, |_| 0)] += 1;
     }
-    assert!(met[0] > 0 && met[8] > 0 && met[11] > 0, "no file was accepted, or none met check 8 or 11: {met:?}");
-    println!("{FILES} files agree; accepted {}, refused by check 8 {}, by check 11 {}", met[0], met[8], met[11]);
+    let numbers = [0, 8, 11, 16];
+    let [accepted, contracts, corrections, positions] = numbers.map(|number| met[number]);
+    assert!(numbers.iter().all(|&number| met[number] > 0), "no file was accepted, or none met check 8, 11 or 16: {met:?}");
+    println!(
+        "{FILES} files agree; accepted {accepted}, refused by check 8 {contracts}, by 11 {corrections}, by 16 {positions}"
+    );
 }

@@ -148,10 +148,10 @@ fn damage_position(random: &mut Random, day: &mut Day) -> Option<()> {
     let other = day.positions[random.below(day.positions.len())];
     let marks = day.marks.len() as u32;
     let position = &mut day.positions[index];
-    match random.below(6) {
-        0 | 1 => position.mark = random.pick(&[0, marks - 1, marks, marks + 1, u32::MAX]),
-        2 | 3 => position.lots = random.pick(&[0, MAX_LOTS, MAX_LOTS + 1, -MAX_LOTS, -MAX_LOTS - 1, i32::MIN, i32::MAX]),
-        4 => position.account = other.account,
+    match random.below(4) {
+        0 => position.mark = random.pick(&[0, marks - 1, marks, marks + 1, u32::MAX]),
+        1 => position.lots = random.pick(&[0, MAX_LOTS, MAX_LOTS + 1, -MAX_LOTS, -MAX_LOTS - 1, i32::MIN, i32::MAX]),
+        2 => position.account = other.account,
         _ => *position = Position { lots: random.pick(&[position.lots, other.lots]), ..other },
     }
     Some(())

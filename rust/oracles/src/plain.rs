@@ -35,7 +35,7 @@ pub fn check<T>(number: u32, records: &[T], fails: impl FnMut(&T) -> bool) -> Re
 }
 
 /// Check `number` over a list: the first record that clashes with an earlier one.
-fn check_pairs<T>(number: u32, records: &[T], clash: impl Fn(&T, &T) -> bool) -> Result<(), Refusal> {
+pub fn check_pairs<T>(number: u32, records: &[T], clash: impl Fn(&T, &T) -> bool) -> Result<(), Refusal> {
     for (index, record) in records.iter().enumerate() {
         if records[..index].iter().any(|earlier| clash(record, earlier)) {
             return Err(Refusal { number, index });

@@ -4,19 +4,10 @@ mod lent;
 
 use citronreef::records::{Correction, Day, Mark, Position, MAX_CORRECTIONS, MAX_MARKS, MAX_POSITIONS};
 use citronreef::{settle, write_sheet, Refusal, Settled, SHEET_SIZE};
-use lent::settled_into;
+use lent::{agreed, settled_into};
 use oracles::days::{damage_bytes, damage_record, day, day_of};
 use oracles::random::Random;
 use oracles::sheet::sheet;
-use oracles::{hashed, plain};
-
-/// The answer of the library, which both independent builds give too, with the same amounts.
-fn agreed(file: &[u8], places: usize) -> Result<Settled, Refusal> {
-    let library = settled_into(settle, file, places);
-    assert_eq!(library, settled_into(plain::settle, file, places), "against plain, {places} places, file {file:?}");
-    assert_eq!(library, settled_into(hashed::settle, file, places), "against hashed, {places} places, file {file:?}");
-    library.0
-}
 
 /// As many places as there are positions, or a few more, or too few.
 fn places(random: &mut Random, positions: usize) -> usize {

@@ -1,7 +1,7 @@
 //! The first record where the condition of a check holds, written from document 01: for each check by itself, whatever the others say.
 
 use citronreef::records::*;
-use oracles::plain::same_contract;
+use oracles::plain::{same_contract, same_holding};
 use oracles::products::{product, Product, PRICE_LIMIT, YEAR_LIMIT};
 
 /// The whole records that the file has of a section.
@@ -53,6 +53,7 @@ pub fn first(file: &[u8], number: u32) -> Option<usize> {
         11 => pair(&corrections, |earlier, later| earlier.number == later.number && earlier != later),
         12 => positions.iter().position(|position| position.mark as usize >= marks.len()),
         13 => positions.iter().position(|position| position.lots == 0 || position.lots.unsigned_abs() > MAX_LOTS as u32),
+        16 => pair(&positions, same_holding),
         _ => None,
     }
 }

@@ -4,6 +4,7 @@
 use citronreef::records::{Correction, Day, Mark, Position};
 use oracles::days::{damage_bytes, damage_record, day};
 use oracles::random::Random;
+use std::collections::HashSet;
 
 fn mark(code: &[u8; 2], month: u8, previous: u32, today: u32) -> Mark {
     Mark { code: *code, month, year: 27, previous, today }
@@ -47,6 +48,8 @@ pub fn accepted(random: &mut Random) -> Day {
     for position in day.positions.iter_mut().filter(|position| position.account % 8 != 0) {
         position.account %= accounts as u32;
     }
+    let mut seen = HashSet::new();
+    day.positions.retain(|position| seen.insert((position.account, position.mark)));
     day
 }
 

@@ -7,7 +7,9 @@ pub fn words() -> Vec<String> {
         let number: usize = cells.next()?.parse().ok()?;
         Some((number, cells.next()?.to_string()))
     });
-    let (numbers, words): (Vec<usize>, Vec<String>) = rows.unzip();
-    assert_eq!(numbers, (1..=15).collect::<Vec<_>>());
+    let mut rows: Vec<(usize, String)> = rows.collect();
+    rows.sort();
+    let (numbers, words): (Vec<usize>, Vec<String>) = rows.into_iter().unzip();
+    assert_eq!(numbers, (1..=16).collect::<Vec<_>>());
     words
 }

@@ -1,6 +1,8 @@
 //! Settles into a slice with guard values around it.
+#![allow(dead_code)]
 
 use citronreef::{Refusal, Settled};
+use oracles::{hashed, plain};
 
 /// A settlement of a file into a slice of amounts.
 pub type Settle = fn(&[u8], &mut [i64]) -> Result<Settled, Refusal>;
@@ -24,4 +26,12 @@ pub fn settled_into(settle: Settle, file: &[u8], places: usize) -> (Result<Settl
         assert_eq!(memory[place], guard(place), "place {place} of {places} with {GUARDS} guards on each side");
     }
     (answer, memory[GUARDS..GUARDS + written].to_vec())
+}
+
+/// The answer of the library, which both independent builds give too, with the same amounts.
+pub fn agreed(file: &[u8], places: usize) -> Result<Settled, Refusal> {
+    let library = settled_into(citronreef::settle, file, places);
+    assert_eq!(library, settled_into(plain::settle, file, places), "against plain, {places} places, file {file:?}");
+    assert_eq!(library, settled_into(hashed::settle, file, places), "against hashed, {places} places, file {file:?}");
+    library.0
 }
