@@ -21,13 +21,16 @@ ghost use Prim.Native.Nat.{_+_, _*_, _<_, _≤_};
 ghost use lib.ListN.{length};
 ghost use Rattle.numbers.specs.Folds.{first, repeating, front};
 ghost use Rattle.pairs.specs.Keys.{word, most, least, lookedAt, sameKeyIn, earlierIn};
-ghost use Rattle.pairs.specs.Trees.{nodeOf, WalkOf, Grown};
-ghost use Rattle.pairs.specs.Walks.{scattered, rootOf, restOf, treeOf, small, middle, Keyed, Room, Zeros};
+ghost use Rattle.pairs.specs.Trees.{nodeOf, Grown};
+ghost use Rattle.pairs.specs.Walks.{scattered, rootOf, restOf, treeOf, small, middle, large};
+ghost use Rattle.pairs.specs.Walks.{Keyed, Room, Walks, Tries, Zeros};
 
-// A tree for at most SMALL, at most MIDDLE or at most MOST records: a short list pays for no long array.
+// A tree for at most SMALL, at most MIDDLE, at most LARGE or at most MOST records: a short list pays for no long array.
 const SMALL: usize = 32;
 
 const MIDDLE: usize = 512;
+
+const LARGE: usize = 1_024;
 
 // As many roots, and two places below each record.
 const SMALL_PLACES: usize = 3 * SMALL;
@@ -36,42 +39,41 @@ const MIDDLE_PLACES: usize = 3 * MIDDLE;
 
 const MOST_PLACES: usize = 3 * MOST;
 
-// Four roots for each record, where only the first that repeats another is looked for: of a list without one nearly every walk then ends
-// at its root, and the processor foresees that.
+// More roots where only the first record that repeats another is looked for: of a list without one nearly every walk then ends at its
+// root, and the processor foresees that.
 const SMALL_ROOTS: usize = 4 * SMALL;
 
 const MIDDLE_ROOTS: usize = 4 * MIDDLE;
 
-const MOST_ROOTS: usize = 4 * MOST;
+const LARGE_ROOTS: usize = 8 * LARGE;
 
-const SMALL_SPREAD: usize = 6 * SMALL;
+const MOST_ROOTS: usize = 3 * MOST;
 
-const MIDDLE_SPREAD: usize = 6 * MIDDLE;
-
-const MOST_SPREAD: usize = 6 * MOST;
+// Two odd factors, of a key's lower half and of its upper half, in the two halves of a number.
+const FACTOR: u64 = 2_654_435_761 + WORD * 2_246_822_519;
 
 // 32 bits of a key.
-fn scatter(x: u64) -> u64
-    ensures { λ r. ⌜ (r ≡ scattered x) × (r < word) ⌝ }
+fn scatter(x: u64, f: u64) -> u64
+    ensures { λ r. ⌜ (r ≡ scattered f x) × (r < word) ⌝ }
 {
-    let low = x % WORD * 2_654_435_761 % WORD;
-    let high = x / WORD * 2_246_822_519 % WORD;
+    let low = x % WORD * (f % WORD) % WORD;
+    let high = x / WORD * (f / WORD) % WORD;
     (low + high) % WORD
 }
 
 // The root where the walk of a key starts.
-fn root_of(x: u64, roots: usize) -> usize
+fn root_of(x: u64, f: u64, roots: usize) -> usize
     requires { ⌜ (0 < roots) × (roots ≤ 4 * most) ⌝ }
-    ensures { λ r. ⌜ (r ≡ rootOf roots x) × (r < roots) ⌝ }
+    ensures { λ r. ⌜ (r ≡ rootOf f roots x) × (r < roots) ⌝ }
 {
-    (scatter(x) * (roots as u64) / WORD) as usize
+    (scatter(x, f) * (roots as u64) / WORD) as usize
 }
 
 // The number whose bits lead it on.
-fn rest_of(x: u64) -> u64
-    ensures { λ r. ⌜ r ≡ restOf x ⌝ }
+fn rest_of(x: u64, f: u64) -> u64
+    ensures { λ r. ⌜ r ≡ restOf f x ⌝ }
 {
-    scatter(x) + WORD * (x / WORD)
+    scatter(x, f) + WORD * (x / WORD)
 }
 
 // A u16 as an index.
@@ -81,26 +83,59 @@ fn wide(x: u16) -> usize
     x as usize
 }
 
-// The place where the walk of record i ends: it is empty, or holds the first record with the same key.
-fn walk(records: &[u8], size: usize, key: Key, place: &[u16], roots: usize, i: usize) -> usize
-    requires { ⌜ (Grown (treeOf key size (now records) roots) i (now place))
+// A walk: where it ends and how many records it went past, or that it has not ended yet.
+pub struct Walked {
+    pub at: usize,
+    pub steps: usize,
+    pub ended: bool,
+}
+
+// The walk of record i, past at most so many records. It ends at a place that is empty, or holds the first record with the same key.
+fn walk(
+    records: &[u8],
+    size: usize,
+    key: Key,
+    f: u64,
+    place: &[u16],
+    roots: usize,
+    i: usize,
+    most_steps: usize,
+) -> Walked
+    requires { ⌜ (Grown (treeOf key size (now records) f roots) i (now place))
         × (Room key size (now records) roots (length (now place)) (i + 1)) ⌝ }
-    ensures { λ r. ⌜ (WalkOf (treeOf key size (now (records .entry)) roots) (now (place .entry)) i r) × (r < roots + 2 * i) ⌝ }
+    ensures { λ r. ⌜ Walks (treeOf key size (now (records .entry)) f roots) (now (place .entry)) i «most_steps» r ⌝ }
 {
     let x = key_at(records, size, key, i);
-    let mut rest = rest_of(x);
-    let mut at = root_of(x, roots);
+    let mut rest = rest_of(x, f);
+    let mut at = root_of(x, f, roots);
     let mut k = wide(place[at]);
+    let mut steps = 0;
     while k != 0 {
         let j = k - 1;
         if key_at(records, size, key, j) == x {
-            return at;
+            return Walked {
+                at,
+                steps,
+                ended: true,
+            };
+        }
+        if steps == most_steps {
+            return Walked {
+                at,
+                steps,
+                ended: false,
+            };
         }
         at = roots + 2 * j + (rest % 2) as usize;
         rest = rest / 2;
         k = wide(place[at]);
+        steps += 1;
     }
-    at
+    Walked {
+        at,
+        steps,
+        ended: true,
+    }
 }
 
 // The record that a place holds, or i where it is empty.
@@ -111,8 +146,83 @@ fn node(k: usize, i: usize) -> usize
     if k == 0 { i } else { k - 1 }
 }
 
-// The first of n records that has the key of an earlier one, by a tree whose places are empty.
+// What comes of a search: an answer, or that the walks got too long.
+pub enum Tried {
+    Answered(Found),
+    Unanswered,
+}
+
+// The first of n records that has the key of an earlier one, by a tree whose places are empty. All walks together go past at most so many
+// records.
 fn first_in(
+    records: &[u8],
+    size: usize,
+    key: Key,
+    n: usize,
+    f: u64,
+    roots: usize,
+    place: &mut [u16],
+    most_steps: usize,
+) -> Tried
+    requires { ⌜ (Room key size (now records) roots (length (now place)) n) × Zeros (now place) ⌝ }
+    ensures { λ r. ⌜ Tries (first (repeating (sameKeyIn key size (now (records .entry)))) n) «most_steps» (n * (roots + 2 * n)) r ⌝ }
+{
+    let mut left = most_steps;
+    let mut i = 0;
+    while i < n {
+        let w = walk(records, size, key, f, place, roots, i, left);
+        if !w.ended {
+            return Tried::Unanswered;
+        }
+        let at = w.at;
+        if wide(place[at]) != 0 {
+            return Tried::Answered(Found::At(i));
+        }
+        left -= w.steps;
+        i += 1;
+        place[at] = i as u16;
+    }
+    Tried::Answered(Found::Nothing)
+}
+
+// Empties the places of a tree.
+fn clear(place: &mut [u16])
+    ensures { λ _. ⌜ Zeros (now (place .exit)) ⌝ }
+{
+    let mut a = 0;
+    while a < place.len() {
+        place[a] = 0;
+        a += 1;
+    }
+}
+
+// A product's two halves, added.
+fn folded(x: u64) -> u64
+    ensures { λ r. ⌜ r < word ⌝ }
+{
+    (x / WORD + x % WORD) % WORD
+}
+
+// Two odd factors that all keys have a part in. Which they are is left free: no answer depends on it.
+fn factor_of(records: &[u8], size: usize, key: Key, n: usize) -> u64
+    requires { ⌜ Keyed key size (now records) n ⌝ }
+    ensures { λ _. ⊤ₛ }
+{
+    let mut low = 1;
+    let mut high = 1;
+    let mut i = 0;
+    while i < n {
+        let x = key_at(records, size, key, i);
+        low = folded((low + x % WORD) % WORD * (FACTOR % WORD));
+        high = folded((high + low + x / WORD) % WORD * (FACTOR / WORD));
+        i += 1;
+    }
+    low / 2 * 2 + 1 + WORD * (high / 2 * 2 + 1)
+}
+
+// The first of n records that has the key of an earlier one, with places for a tree. Keys can be chosen so that their walks are long. Then
+// the search starts anew with factors that come from the keys themselves: who chooses keys for these changes them.
+fn first_by(
     records: &[u8],
     size: usize,
     key: Key,
@@ -123,16 +233,18 @@ fn first_in(
     requires { ⌜ (Room key size (now records) roots (length (now place)) n) × Zeros (now place) ⌝ }
     ensures { λ r. ⌜ r ≡ first (repeating (sameKeyIn key size (now (records .entry)))) n ⌝ }
 {
-    let mut i = 0;
-    while i < n {
-        let at = walk(records, size, key, place, roots, i);
-        if wide(place[at]) != 0 {
-            return Found::At(i);
+    match first_in(records, size, key, n, FACTOR, roots, place, n / 4 + SMALL) {
+        Tried::Answered(found) => {
+            return found;
         }
-        i += 1;
-        place[at] = i as u16;
+        Tried::Unanswered => {}
     }
-    Found::Nothing
+    clear(place);
+    let f = factor_of(records, size, key, n);
+    match first_in(records, size, key, n, f, roots, place, n * (roots + 2 * n)) {
+        Tried::Answered(found) => found,
+        Tried::Unanswered => Found::Nothing,
+    }
 }
 
 // The same of at most SMALL records, with the places for them.
@@ -140,8 +252,8 @@ fn first_small(records: &[u8], size: usize, key: Key, n: usize) -> Found
     requires { ⌜ (Keyed key size (now records) n) × (n ≤ small) ⌝ }
     ensures { λ r. ⌜ r ≡ first (repeating (sameKeyIn key size (now (records .entry)))) n ⌝ }
 {
-    let mut place = [0u16; SMALL_SPREAD];
-    first_in(records, size, key, n, SMALL_ROOTS, &mut place)
+    let mut place = [0u16; SMALL_ROOTS + 2 * SMALL];
+    first_by(records, size, key, n, SMALL_ROOTS, &mut place)
 }
 
 // Of at most MIDDLE records.
@@ -149,17 +261,26 @@ fn first_middle(records: &[u8], size: usize, key: Key, n: usize) -> Found
     requires { ⌜ (Keyed key size (now records) n) × (n ≤ middle) ⌝ }
     ensures { λ r. ⌜ r ≡ first (repeating (sameKeyIn key size (now (records .entry)))) n ⌝ }
 {
-    let mut place = [0u16; MIDDLE_SPREAD];
-    first_in(records, size, key, n, MIDDLE_ROOTS, &mut place)
+    let mut place = [0u16; MIDDLE_ROOTS + 2 * MIDDLE];
+    first_by(records, size, key, n, MIDDLE_ROOTS, &mut place)
+}
+
+// Of at most LARGE records.
+fn first_large(records: &[u8], size: usize, key: Key, n: usize) -> Found
+    requires { ⌜ (Keyed key size (now records) n) × (n ≤ large) ⌝ }
+    ensures { λ r. ⌜ r ≡ first (repeating (sameKeyIn key size (now (records .entry)))) n ⌝ }
+{
+    let mut place = [0u16; LARGE_ROOTS + 2 * LARGE];
+    first_by(records, size, key, n, LARGE_ROOTS, &mut place)
 }
 
 // Of as many as are looked at.
-fn first_large(records: &[u8], size: usize, key: Key, n: usize) -> Found
+fn first_of_most(records: &[u8], size: usize, key: Key, n: usize) -> Found
     requires { ⌜ Keyed key size (now records) n ⌝ }
     ensures { λ r. ⌜ r ≡ first (repeating (sameKeyIn key size (now (records .entry)))) n ⌝ }
 {
-    let mut place = [0u16; MOST_SPREAD];
-    first_in(records, size, key, n, MOST_ROOTS, &mut place)
+    let mut place = [0u16; MOST_ROOTS + 2 * MOST];
+    first_by(records, size, key, n, MOST_ROOTS, &mut place)
 }
 
 // The first record that has the key of an earlier one. Records after the first MOST are not looked at, and none where a record is shorter
@@ -172,8 +293,10 @@ pub fn first_repeated(records: &[u8], size: usize, key: Key) -> Found
         first_small(records, size, key, n)
     } else if n <= MIDDLE {
         first_middle(records, size, key, n)
-    } else {
+    } else if n <= LARGE {
         first_large(records, size, key, n)
+    } else {
+        first_of_most(records, size, key, n)
     }
 }
 
@@ -195,7 +318,8 @@ fn earlier_in(
 {
     let mut i = 0;
     while i < n {
-        let at = walk(records, size, key, place, roots, i);
+        let w = walk(records, size, key, FACTOR, place, roots, i, roots + 2 * i);
+        let at = w.at;
         let j = node(wide(place[at]), i);
         let first = j + 1;
         place[at] = first as u16;

@@ -114,13 +114,14 @@ pub fn mark(file: &[u8], mark: usize) -> Result<MarkPrices, Refusal> {
 /// let day = Day {
 ///     marks: vec![Mark { code: *b"IR", month: 3, year: 27, previous: 950_000, today: 950_050 }],
 ///     corrections: vec![],
-///     positions: vec![Position { account: 11, mark: 0, lots: 10 }, Position { account: 12, mark: 0, lots: 0 }],
+///     positions: [(11, 10), (12, 0), (11, -4)].map(|(account, lots)| Position { account, mark: 0, lots }).to_vec(),
 /// };
-/// assert_eq!(citronreef::settle(&day.bytes(), &mut [0; 2]).unwrap_err().number, 7);
+/// assert_eq!(citronreef::settle(&day.bytes(), &mut [0; 3]).unwrap_err().number, 7);
 /// assert_eq!(find(&day.bytes(), 7), Some(0));
 /// assert_eq!(find(&day.bytes(), 8), None);
 /// assert_eq!(find(&day.bytes(), 13), Some(1));
-/// assert_eq!((find(&day.bytes(), 14), find(&day.bytes(), 16)), (None, None));
+/// assert_eq!(find(&day.bytes(), 16), Some(2));
+/// assert_eq!(find(&day.bytes(), 14), None);
 /// // A file that is cut short has one whole position, and that one passes.
 /// assert_eq!((find(&day.bytes()[..50], 3), find(&day.bytes()[..50], 13)), (Some(0), None));
 /// ```

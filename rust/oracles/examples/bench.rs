@@ -152,6 +152,7 @@ fn other_days(random: &mut Random) -> Vec<(&'static str, Day)> {
         let products: Vec<Product> = PRODUCTS.iter().filter(|product| codes.contains(&product.code)).copied().collect();
         with_distinct_numbers(day_of_products(random, &products, full))
     };
+    let tiny = day_of(random, 1, 2, 2);
     vec![
         ("some resent", day_of_products(random, &PRODUCTS, full)),
         ("equal corrections", with_equal_corrections(day_of_products(random, &PRODUCTS, full))),
@@ -167,9 +168,9 @@ fn other_days(random: &mut Random) -> Vec<(&'static str, Day)> {
             with_holdings(day_of_products(random, &PRODUCTS, full), |index| (index / 256, index % 256)),
         ),
         ("long position walks", with_long_walks_of_positions(day_of_products(random, &PRODUCTS, full))),
-        ("1 mark, 2 positions", day_of(random, 1, 2, 2)),
         ("no positions", with_distinct_numbers(day_of(random, MAX_MARKS, MAX_CORRECTIONS, 0))),
-        ("1 mark, no positions", day_of(random, 1, 0, 0)),
+        ("1 mark, no positions", Day { positions: vec![], ..tiny.clone() }),
+        ("1 mark, 2 positions", tiny),
     ]
 }
 

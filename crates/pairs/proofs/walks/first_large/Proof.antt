@@ -1,19 +1,20 @@
--- Four roots for each record, and two places below it, fit in six times as many places as there may be records. These start empty.
+-- Eight roots for each record, and two places below it, fit in ten times as many places as there may be records. These start empty.
 use Prim.Native.Nat.{_*_}
 use native.Mathlib.Omega.{arith}
-use Rattle.pairs.specs.Keys.{most}
+use Rattle.pairs.specs.Walks.{large}
 use Rattle.pairs.proofs.Rooms.{room-in}
 use Rattle.pairs.proofs.Trees.{zeros}
 use borrow.Author.Needs.{needs}
 use Rattle.pairs.proofs.walks.first_large.Statement.{statement}
 use Rattle.pairs.proofs.walks.first_large.Tie as tie
 
-first-in-requires : tie.Need-first-in-requires
-first-in-requires c κs = (room-in (4 * most) (6 * most) (c .before .before .pre) (omega arith) (omega arith) (omega (arith, c .before .before .pre .few)), zeros (6 * most))
+first-by-requires : tie.Need-first-by-requires
+first-by-requires c κs =
+    (room-in (8 * large) (10 * large) (c .before .before .pre .0) (omega arith) (omega arith) (omega (arith, c .before .before .pre .1)), zeros (10 * large))
 
 pub first-large-spec : {M : Type 1} → statement M
 first-large-spec = tie.close
     (tie.spec
     (λ c. search needs)
-    first-in-requires
+    first-by-requires
     (λ c. search needs))

@@ -1,4 +1,4 @@
--- The records that are looked at have keys; by their number one of three trees is taken, and each answers the same.
+-- The records that are looked at have keys; by their number one of four trees is taken, and each answers the same.
 use native.Mathlib.Omega.{arith}
 use Rattle.numbers.specs.Folds.{first}
 use Rattle.numbers.proofs.Chain.{by-one}
@@ -14,7 +14,10 @@ first-middle-requires : tie.Need-first-middle-requires
 first-middle-requires c κs = (looked-keyed _ _ _ _ (omega (arith, c .before .before .looked-at .ensures)), c .if2 .taken)
 
 first-large-requires : tie.Need-first-large-requires
-first-large-requires c κs = looked-keyed _ _ _ _ (omega (arith, c .before .before .looked-at .ensures))
+first-large-requires c κs = (looked-keyed _ _ _ _ (omega (arith, c .before .before .before .looked-at .ensures)), c .if3 .taken)
+
+first-of-most-requires : tie.Need-first-of-most-requires
+first-of-most-requires c κs = looked-keyed _ _ _ _ (omega (arith, c .before .before .before .looked-at .ensures))
 
 returns : tie.Need-returns
 returns c = by-one (first _) (c .first-small .ensures) (c .before .before .looked-at .ensures)
@@ -23,7 +26,10 @@ returns-2 : tie.Need-returns-2
 returns-2 c = by-one (first _) (c .first-middle .ensures) (c .before .before .before .looked-at .ensures)
 
 returns-3 : tie.Need-returns-3
-returns-3 c = by-one (first _) (c .first-large .ensures) (c .before .before .before .looked-at .ensures)
+returns-3 c = by-one (first _) (c .first-large .ensures) (c .before .before .before .before .looked-at .ensures)
+
+returns-4 : tie.Need-returns-4
+returns-4 c = by-one (first _) (c .first-of-most .ensures) (c .before .before .before .before .looked-at .ensures)
 
 pub first-repeated-spec : {M : Type 1} → statement M
 first-repeated-spec =
@@ -33,6 +39,8 @@ first-repeated-spec =
     first-small-requires
     first-middle-requires
     first-large-requires
+    first-of-most-requires
     returns
     returns-2
-    returns-3)
+    returns-3
+    returns-4)
