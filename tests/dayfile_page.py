@@ -183,7 +183,7 @@ def check_worked():
     says(f"The value is {calculator.value(b'YT', 999_950):,}.")
     change, settled = later - bill, settle(CASE, MAX_POSITIONS)
     long, short = settled.amounts
-    says(f"{bill:,} † cents at 950,000 and is worth {later:,} † at 950,100: a change of {change:,}.")
+    says(f"The value of one contract was {bill:,} † cents at 950,000 and is {later:,} † at 950,100: a change of {change:,}.")
     says(f"The amounts are 10 × {change:,} = {long:,} and −4 × {change:,} = −{-short:,}.")
     says(f"The total is {settled.aud:,} Australian cents")
 
@@ -192,10 +192,12 @@ def check_worked():
 
 
 def check_refusals():
-    """The numbers 1 to 15 stand in their order, and each names the records that docs/REFUSALS.md names."""
+    """The numbers 1 to 15 stand in their order, here and in docs/REFUSALS.md, and each names the records that the latter names."""
     items = re.findall(r"^(\d+)\. (.*(?:\n +.*)*)", under(REFUSAL), re.MULTILINE)
-    require([int(n) for n, _ in items] == list(range(1, 16)), "the numbers 1 to 15, in their order")
-    words = rows((ROOT / "docs" / "REFUSALS.md").read_text(), "number", "words", "the index counts")
+    refusals = (ROOT / "docs" / "REFUSALS.md").read_text()
+    for numbers in ([n for n, _ in items], re.findall(r"^(\d+)\. ", refusals, re.MULTILINE)):
+        require(list(map(int, numbers)) == list(range(1, 16)), "the numbers 1 to 15, in their order")
+    words = rows(refusals, "number", "words", "the index counts")
     for (n, text), (other, _, records) in zip(items, words):
         index = re.search(r"Index: (\w+)(, the later of the two)?\.", " ".join(text.split()))
         require(n == other and index, "the index of", n)
