@@ -68,7 +68,7 @@ def price_range(first, last, step):
     return range(first, last + 1, step)
 
 
-def listed_prices(product):
+def prices_on_tick(product):
     """Every multiple of the tick within the limit."""
     return price_range(0, PRICE_LIMIT, product.tick)
 
@@ -141,7 +141,7 @@ def exact_value(terms, price):
 
 @dataclass(frozen=True)
 class Refused:
-    """The number of the check that turns a call away. A call that is not turned away answers a plain number."""
+    """The number of the check that refuses a call. A call that is not refused answers a plain number."""
 
     number: int
 

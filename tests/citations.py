@@ -7,6 +7,8 @@ The forms are those of docs/STATEMENTS.md: `Demands.demand-1`, a law; `pricing: 
 `checks::find`, functions; paths; edits; and bare names, of the file that is named before, or after by "of", or of the code of
 a crate that the cell or the heading names. On a page other than STATEMENTS a bare name may stand in any crate. A word in
 backquotes that has none of these forms must be one of WORDS.
+
+It also counts the lines of the files of definitions, which docs/READING.md gives.
 """
 import re
 from functools import lru_cache
@@ -17,7 +19,8 @@ from require import require
 ROOT = Path(__file__).resolve().parent.parent
 CRATES = {path.name: path for path in sorted((ROOT / "crates").iterdir()) if path.is_dir()}
 STRICT = "docs/STATEMENTS.md"
-PAGES = [STRICT, "docs/ASSUMPTIONS.md", "docs/CHECKS.md", "docs/DAYFILE.md", "docs/DECISIONS.md", "docs/READING.md", "README.md"]
+READING = "docs/READING.md"
+PAGES = [STRICT, "docs/ASSUMPTIONS.md", "docs/CHECKS.md", "docs/DAYFILE.md", "docs/DECISIONS.md", READING, "README.md"]
 LAWS = {"Promises": "crates/pricing/proofs/Promises.antt", "Demands": "crates/settlement/proofs/Demands.antt"}
 ELSEWHERE = ("target/", "lib/", "bin/", "share/", "/", "-")  # paths of what is built or installed, and of the machine; options
 COMMANDS = {"explain", "make", "sheet", "show"}  # of citronreef
@@ -35,6 +38,8 @@ QUALIFIED = re.compile(r"(?:(\w+): )?([A-Z]\w*)\.([^\s.]+)")
 PATH = re.compile(r"(?:\w+: )?(?:[\w./-]*/[\w./-]*|[\w-]+\.(?:antt|rt|md|py|txt|sh|h))")
 LAW = re.compile(r"\s*(?:(?:pub|abbrev|unfoldable|axiom)\s+)*(?:(?:record|data)\s+([^\s:({]+)|([^\s:(){}=]+)\s*:(?:\s|$))")
 CODE = re.compile(r'\s*(?:pub(?:\(crate\))?\s+)?(?:extern "C"\s+)?(?:fn|struct|enum|const)\s+(\w+)')
+COUNTED = re.compile(r"`(?:(\w+): )?([A-Z]\w*)`(?: (\d+))?")
+UNCOUNTED = re.compile(r"\s*(?:--.*|use .*|(?:pub )?mod .*)?")
 
 
 # What files declare
@@ -258,8 +263,36 @@ def check_shown(page):
         require(any(shown in text for text in code), page, "shows a function with a contract that it has:", shown)
 
 
+# The lines of definitions
+
+
+def lines_of(path):
+    """How many lines a file has without imports, comments and blanks."""
+    return sum(not UNCOUNTED.fullmatch(line) for line in path.read_text().splitlines())
+
+
+def check_lines():
+    """What does not hold of READING: it names every file of definitions, has its lines after its name, and their sum."""
+    faults, total = [], 0
+    unnamed = {path for root in CRATES.values() for path in root.glob("specs/*.antt") if path.stem != "Lib"}
+    for unit in units(READING):
+        crate = None
+        for found in COUNTED.finditer(unit.text):
+            crate = found[1] or crate
+            place = specs_named(found[2], [crate])
+            lines = sum(map(lines_of, place.files)) if place else 0
+            unnamed -= set(place.files if place else ())
+            if found[3]:
+                unit.require(lines == int(found[3]), found[0], "is right: the lines are", str(lines))
+                total += lines
+        faults += unit.faults
+    said = f"some {round(total, -1)} lines" in (ROOT / READING).read_text()
+    faults += [] if said else [f"{READING}: has the sum of the lines, {total}"]
+    return faults + [f"{READING}: names {path.relative_to(ROOT)}" for path in sorted(unnamed)]
+
+
 def main():
-    count, faults = 0, []
+    count, faults = 0, check_lines()
     for page in PAGES:
         check_shown(page)
         for unit in units(page):

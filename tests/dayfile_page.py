@@ -183,7 +183,7 @@ def check_worked():
     says(f"The value is {calculator.value(b'YT', 999_950):,}.")
     change, settled = later - bill, settle(CASE, MAX_POSITIONS)
     long, short = settled.amounts
-    says(f"{bill:,} † cents at 950,000 and is worth {later:,} † at 950,100: a change of {change:,}.")
+    says(f"The value of one contract was {bill:,} † cents at 950,000 and is {later:,} † at 950,100: a change of {change:,}.")
     says(f"The amounts are 10 × {change:,} = {long:,} and −4 × {change:,} = −{-short:,}.")
     says(f"The total is {settled.aud:,} Australian cents")
 
@@ -192,10 +192,12 @@ def check_worked():
 
 
 def check_refusals():
-    """The numbers 1 to 16 are told one by one, and each names the records that docs/REFUSALS.md names; and so is the order."""
+    """The numbers 1 to 16 are told one by one, here and in docs/REFUSALS.md, in one order, and of the same records."""
     items = re.findall(r"^(\d+)\. (.*(?:\n +.*)*)", under(REFUSAL), re.MULTILINE)
-    require([int(n) for n, _ in items] == list(range(1, 17)), "the numbers 1 to 16")
-    words = rows((ROOT / "docs" / "REFUSALS.md").read_text(), "number", "words", "the index counts")
+    refusals = (ROOT / "docs" / "REFUSALS.md").read_text()
+    for numbers in ([n for n, _ in items], re.findall(r"^(\d+)\. ", refusals, re.MULTILINE)):
+        require(list(map(int, numbers)) == list(range(1, 17)), "the numbers 1 to 16")
+    words = rows(refusals, "number", "words", "the index counts")
     order = [*range(1, 4), *(n for n, _, _ in record_checks(day())), 14]
     says(f"of a file it is {' '.join(map(str, order))}.")
     require([int(n) for n, _, _ in words] == [*order, 15], "the order of docs/REFUSALS.md")

@@ -5,7 +5,7 @@
 """
 import sys
 
-from calculator import LARGEST_U32, PRICE_LIMIT, PRODUCTS, Refused, bracket, listed_prices, price_range, tick_value, value
+from calculator import LARGEST_U32, PRICE_LIMIT, PRODUCTS, Refused, bracket, price_range, prices_on_tick, tick_value, value
 from digest import digest
 
 
@@ -52,7 +52,7 @@ PRICES_OF_ANY_CODE = (950_000, 0, PRICE_LIMIT + 1, 950_025)
 def sweep_product(code, product):
     """A listed product: at every multiple of the tick, off the tick, and above the limit."""
     print_lines(code, price_range(0, PRICE_LIMIT, 50_000))
-    print_digest(code, "digest", listed_prices(product))
+    print_digest(code, "digest", prices_on_tick(product))
     print_lines(code, price_range(950_000, 950_100, 25))
     print_digest(code, "off tick digest", price_range(0, PRICE_LIMIT, 37))
     print_lines(code, price_range(PRICE_LIMIT - 100, PRICE_LIMIT + 100, 25))

@@ -1,5 +1,5 @@
 #!/usr/bin/env python3
-"""Checks what document 01 promises of one contract at every listed price: figures, bounds, distances from the exact values.
+"""Checks what document 01 promises of one contract at every price within the limit and on the tick: figures, bounds, accuracy.
 
   theorems.py
 """
@@ -18,8 +18,8 @@ from calculator import (
     exact_value,
     ladder,
     ladder_bracket,
-    listed_prices,
     price_range,
+    prices_on_tick,
     tick_value,
     value,
     value_at,
@@ -27,7 +27,7 @@ from calculator import (
 )
 from require import require
 
-# The stated accuracy of a change in value, in thousandths of a cent for each lot.
+# The accuracy figures: how far a change in value may lie from the exact one, in thousandths of a cent for each lot.
 ACCURACY = {b"IR": 1_000, b"BB": 1_000, b"IB": 0, b"YT": 2_208, b"XT": 6_100, b"XX": 6_550}
 
 
@@ -76,17 +76,17 @@ def check_figures():
 def check_bill_forms():
     """The bill's quotient in whole numbers equals face times 365 over (365 + yield times 90 / 100)."""
     for code in (b"IR", b"BB"):
-        listed = listed_prices(PRODUCTS[code])
-        for price in listed:
+        prices = prices_on_tick(PRODUCTS[code])
+        for price in prices:
             quotient = Fraction(3_650_000_000_000_000, 36_500_000 + 9 * yield_at(price))
             require(exact_value(PRODUCTS[code].terms, price) == quotient, code, "two forms of the quotient at", price)
-        print(f"{code.decode()}: both forms of the quotient agree at {len(listed)} prices")
+        print(f"{code.decode()}: both forms of the quotient agree at {len(prices)} prices")
 
 
-def check_ladder(code, bond, listed):
+def check_ladder(code, bond, prices):
     """The exact bracket is the whole number over (2,000,000 + Y)^n, every V is at most 1, and the ladder is near."""
     farthest = 0
-    for price in listed:
+    for price in prices:
         exact = exact_bracket(bond, price)
         whole = exact * (2_000_000 + yield_at(price)) ** bond.halves
         require(whole == whole_bracket(bond, price), code, "whole bracket at", price)
@@ -110,15 +110,15 @@ def check_any_bond():
     print("ladder: distance holds for n from 1 to 60 and c from 0 to 9 at 51 prices")
 
 
-def check_value(code, terms, listed):
+def check_value(code, terms, prices):
     """A higher price never has a lower value; every value lies within half the accuracy figure of the exact one.
 
     Hence the change in value between two prices lies within the figure of the exact change. The largest is printed.
     """
     accuracy = ACCURACY[code]
-    values = [value_at(terms, price) for price in listed]
+    values = [value_at(terms, price) for price in prices]
     require(all(low <= high for low, high in zip(values, values[1:])), code, "a value falls")
-    errors = [v - exact_value(terms, price) for v, price in zip(values, listed)]
+    errors = [v - exact_value(terms, price) for v, price in zip(values, prices)]
     farthest = max(map(abs, errors))
     require(2 * 1_000 * farthest <= accuracy, code, "accuracy", float(farthest))
     between = 1_000 * (max(errors) - min(errors))
@@ -130,15 +130,15 @@ def check_value(code, terms, listed):
 
 
 def theorems():
-    """Checks each promise at every listed price of every product, and says what was compared."""
+    """Checks each promise at every price of every product within the limit and on the tick, and says what was compared."""
     check_figures()
     check_bill_forms()
     check_any_bond()
     for code, product in PRODUCTS.items():
-        listed = listed_prices(product)
+        prices = prices_on_tick(product)
         if isinstance(product.terms, Bond):
-            check_ladder(code, product.terms, listed)
-        check_value(code, product.terms, listed)
+            check_ladder(code, product.terms, prices)
+        check_value(code, product.terms, prices)
     print("every promise about one contract holds at these prices")
 
 

@@ -1,6 +1,6 @@
 """Citronreef for Python: values of one ASX 24 rate futures contract, the settlement of a day file, and its sheet.
 
-Prices are Decimal, as quoted: Decimal("95.01"). Amounts are whole cents. A call that is turned away raises Refusal.
+Prices are Decimal, as quoted: Decimal("95.01"). Amounts are whole cents. A call that is refused raises Refusal.
 
     >>> from decimal import Decimal
     >>> value("IR", Decimal("95.01"))

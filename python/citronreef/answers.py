@@ -5,7 +5,7 @@ from dataclasses import dataclass
 from decimal import Decimal
 from typing import Optional, Tuple
 
-# What each check turns away, by its number from 1.
+# What each check refuses, by its number from 1.
 WORDS = (
     "the file is shorter than 24 bytes",
     "a count is above its limit",
@@ -32,7 +32,7 @@ NO_SUCH_MARK = "the file has no such mark"
 
 
 class Refusal(Exception):
-    """A call that is turned away: the number of the check, the index of the record in its section, and the check in words.
+    """A call that is refused: the number of the check, the index of the record in its section, and the check in words.
 
     The words are those of WORDS, but where a bracket or a mark is asked for that there is not.
     """

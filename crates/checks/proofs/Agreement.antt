@@ -17,7 +17,7 @@ use Rattle.numbers.proofs.Checks.{Agree, agree-only, agree-before}
 use Rattle.products.specs.Products.{priceLimit, find, monthsOf, Unlisted}
 use Rattle.products.specs.declared.table.Code.{Code}
 use Rattle.products.specs.declared.table.Product.{Product}
-use Rattle.products.specs.declared.table.NamedProduct.the-variants.{At}
+use Rattle.products.specs.declared.table.NamedProduct.the-variants.{Named}
 use Rattle.products.proofs.Finding.{tells-unlisted, tells-product}
 use Rattle.products.proofs.Months.{month-exactly}
 use Rattle.dayfile.specs.Limits.{Limits, yearLimit, lotsLimit}
@@ -28,8 +28,8 @@ use Rattle.dayfile.specs.declared.records.Mark.{Mark}
 use Rattle.dayfile.specs.declared.records.Correction.{Correction}
 use Rattle.dayfile.specs.declared.records.Position.{Position}
 use Rattle.dayfile.proofs.Refusals.{header-agrees}
-use Rattle.checks.specs.Table.{aboveLimit, listed, listedIn, quoted, quotedIn, tickOf, tickIn}
-use Rattle.checks.specs.Marks.{Quoted, OffTick, offTick, SameContract, sameContract, contractPair}
+use Rattle.checks.specs.Table.{aboveLimit, listed, listedIn, codeHasMonth, hasMonthIn, tickOf, tickIn}
+use Rattle.checks.specs.Marks.{HasMonth, OffTick, offTick, SameContract, sameContract, contractPair}
 use Rattle.checks.specs.Marks.{MarkCheck, MarkCode, MarkDate, MarkLimit, MarkTick, MarkRepeated, markChecks, tooManyMarks, markListChecks}
 use Rattle.checks.specs.Corrections.{Clash, clashing, clashPair, CorrectionCheck, CorrectionMark, CorrectionPrice, CorrectionClash, correctionChecks, tooManyCorrections, correctionListChecks}
 use Rattle.checks.specs.Positions.{badLots, SameHolding, sameHolding, holdingPair, PositionCheck, PositionMark, PositionLots, PositionRepeated}
@@ -40,18 +40,18 @@ use Rattle.checks.specs.Judging.{recordChecks, fileChecks}
 
 tells-missing : (a : Code) → Tells (not (listed a)) (Unlisted a)
 unfolding listed
-tells-missing a = tells-unlisted a (λ f. not (listedIn f)) (λ q. refl) refl
+tells-missing a = tells-unlisted a (λ f. not (listedIn f)) (λ product. refl) refl
 
-tells-off-tick : (a : Code) (p : ℕ) → Tells (not (eqb (p % tickOf a) 0)) ((q : Product) × (find a ≡ At q) × ¬ (q .tick ∣ p))
+tells-off-tick : (a : Code) (p : ℕ) → Tells (not (eqb (p % tickOf a) 0)) ((product : Product) × (find a ≡ Named product) × ¬ (product .tick ∣ p))
 unfolding tickOf
 tells-off-tick a p =
-    tells-product a (λ f. not (eqb (p % tickIn f) 0)) {A = λ q. ¬ (q .tick ∣ p)} (λ q. tells-not (eqb (p % q .tick) 0) (tells-divides (q .tick) p)) (rw (mod-one p))
+    tells-product a (λ f. not (eqb (p % tickIn f) 0)) {A = λ product. ¬ (product .tick ∣ p)} (λ product. tells-not (eqb (p % product .tick) 0) (tells-divides (product .tick) p)) (rw (mod-one p))
 
-tells-quoted : (a : Code) (m : ℕ) → Tells (quoted a m) (Quoted a m)
-unfolding quoted
-tells-quoted a m =
-    tells-product a (λ f. quotedIn f m) {A = λ q. List·Memᴰ m (monthsOf q)}
-    (λ q. record { yes = month-exactly q m .0; no = λ h x. not-both (month-exactly q m .1 x) h }) refl
+tells-has-month : (a : Code) (m : ℕ) → Tells (codeHasMonth a m) (HasMonth a m)
+unfolding codeHasMonth
+tells-has-month a m =
+    tells-product a (λ f. hasMonthIn f m) {A = λ product. List·Memᴰ m (monthsOf product)}
+    (λ product. record { yes = month-exactly product m .0; no = λ h x. not-both (month-exactly product m .1 x) h }) refl
 
 above : (p : ℕ) → Tells (aboveLimit p) (priceLimit < p)
 above p = tells-lt priceLimit p
@@ -107,7 +107,7 @@ pub marks-agree : (ms : List Mark) → Agree (markChecks ms)
 marks-agree ms MarkCode i = tells-missing (markAt ms i .code)
 marks-agree ms MarkDate i =
     let m = markAt ms i in
-    tells-or (not (quoted (m .code) (m .month))) (ltb yearLimit (m .year)) (tells-not _ (tells-quoted (m .code) (m .month))) (tells-lt yearLimit (m .year))
+    tells-or (not (codeHasMonth (m .code) (m .month))) (ltb yearLimit (m .year)) (tells-not _ (tells-has-month (m .code) (m .month))) (tells-lt yearLimit (m .year))
 marks-agree ms MarkLimit i = let m = markAt ms i in tells-or (aboveLimit (m .previous)) (aboveLimit (m .today)) (above (m .previous)) (above (m .today))
 marks-agree ms MarkTick i = let m = markAt ms i in tells-or (offTick m (m .previous)) (offTick m (m .today)) (off-tick m (m .previous)) (off-tick m (m .today))
 marks-agree ms MarkRepeated i = tells-some (contractPair ms i) i (λ j. same-contract (markAt ms i) (markAt ms j))

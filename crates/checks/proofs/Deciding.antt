@@ -52,33 +52,33 @@ findings-by : {a a′ b b′ c c′ d d′ : Found} → a ≡ a′ → b ≡ b�
     → _≡_ {A = MarkFindings} (record { code = a; date = b; high = c; off = d }) (record { code = a′; date = b′; high = c′; off = d′ })
 findings-by p q r s = cc
 
-pub mark-more : (ms : List Mark) (i : ℕ) {f r : MarkFindings} {l : MarkFaults} → f ≡ markFindings ms i → l ≡ markFaults (markAt ms i) → WithMark f l i r → r ≡ markFindings ms (i + 1)
+pub mark-more : (ms : List Mark) (i : ℕ) {f r : MarkFindings} {faults : MarkFaults} → f ≡ markFindings ms i → faults ≡ markFaults (markAt ms i) → WithMark f faults i r → r ≡ markFindings ms (i + 1)
 mark-more ms i p q w =
     findings-by
-    (first-next (markCheck ms MarkCode .test) i (ap (λ (f : MarkFindings). f .code) p) (ap (λ (l : MarkFaults). l .code) q) (w .code))
-    (first-next (markCheck ms MarkDate .test) i (ap (λ (f : MarkFindings). f .date) p) (ap (λ (l : MarkFaults). l .date) q) (w .date))
-    (first-next (markCheck ms MarkLimit .test) i (ap (λ (f : MarkFindings). f .high) p) (ap (λ (l : MarkFaults). l .high) q) (w .high))
-    (first-next (markCheck ms MarkTick .test) i (ap (λ (f : MarkFindings). f .off) p) (ap (λ (l : MarkFaults). l .off) q) (w .off))
+    (first-next (markCheck ms MarkCode .test) i (ap (λ (f : MarkFindings). f .code) p) (ap (λ (faults : MarkFaults). faults .code) q) (w .code))
+    (first-next (markCheck ms MarkDate .test) i (ap (λ (f : MarkFindings). f .date) p) (ap (λ (faults : MarkFaults). faults .date) q) (w .date))
+    (first-next (markCheck ms MarkLimit .test) i (ap (λ (f : MarkFindings). f .high) p) (ap (λ (faults : MarkFaults). faults .high) q) (w .high))
+    (first-next (markCheck ms MarkTick .test) i (ap (λ (f : MarkFindings). f .off) p) (ap (λ (faults : MarkFaults). faults .off) q) (w .off))
 
 corrections-by : {a a′ b b′ : Found} → a ≡ a′ → b ≡ b′ → _≡_ {A = CorrectionFindings} (record { missing = a; price = b }) (record { missing = a′; price = b′ })
 corrections-by p q = cc
 
-pub correction-more : (ms : List Mark) (cs : List Correction) (i : ℕ) {f r : CorrectionFindings} {l : CorrectionFaults} → f ≡ correctionFindings ms cs i
-    → l ≡ correctionFaults ms (correctionAt cs i) → WithCorrection f l i r → r ≡ correctionFindings ms cs (i + 1)
+pub correction-more : (ms : List Mark) (cs : List Correction) (i : ℕ) {f r : CorrectionFindings} {faults : CorrectionFaults} → f ≡ correctionFindings ms cs i
+    → faults ≡ correctionFaults ms (correctionAt cs i) → WithCorrection f faults i r → r ≡ correctionFindings ms cs (i + 1)
 correction-more ms cs i p q w =
     corrections-by
-    (first-next (correctionCheck ms cs CorrectionMark .test) i (ap (λ (f : CorrectionFindings). f .missing) p) (ap (λ (l : CorrectionFaults). l .missing) q) (w .missing))
-    (first-next (correctionCheck ms cs CorrectionPrice .test) i (ap (λ (f : CorrectionFindings). f .price) p) (ap (λ (l : CorrectionFaults). l .price) q) (w .price))
+    (first-next (correctionCheck ms cs CorrectionMark .test) i (ap (λ (f : CorrectionFindings). f .missing) p) (ap (λ (faults : CorrectionFaults). faults .missing) q) (w .missing))
+    (first-next (correctionCheck ms cs CorrectionPrice .test) i (ap (λ (f : CorrectionFindings). f .price) p) (ap (λ (faults : CorrectionFaults). faults .price) q) (w .price))
 
 positions-by : {a a′ b b′ : Found} → a ≡ a′ → b ≡ b′ → _≡_ {A = PositionFindings} (record { missing = a; lots = b }) (record { missing = a′; lots = b′ })
 positions-by p q = cc
 
-pub position-more : (ms : List Mark) (ps : List Position) (i : ℕ) {f r : PositionFindings} {l : PositionFaults} → f ≡ positionFindings ms ps i
-    → l ≡ positionFaults ms (positionAt ps i) → WithPosition f l i r → r ≡ positionFindings ms ps (i + 1)
+pub position-more : (ms : List Mark) (ps : List Position) (i : ℕ) {f r : PositionFindings} {faults : PositionFaults} → f ≡ positionFindings ms ps i
+    → faults ≡ positionFaults ms (positionAt ps i) → WithPosition f faults i r → r ≡ positionFindings ms ps (i + 1)
 position-more ms ps i p q w =
     positions-by
-    (first-next (positionCheck ms ps PositionMark .test) i (ap (λ (f : PositionFindings). f .missing) p) (ap (λ (l : PositionFaults). l .missing) q) (w .missing))
-    (first-next (positionCheck ms ps PositionLots .test) i (ap (λ (f : PositionFindings). f .lots) p) (ap (λ (l : PositionFaults). l .lots) q) (w .lots))
+    (first-next (positionCheck ms ps PositionMark .test) i (ap (λ (f : PositionFindings). f .missing) p) (ap (λ (faults : PositionFaults). faults .missing) q) (w .missing))
+    (first-next (positionCheck ms ps PositionLots .test) i (ap (λ (f : PositionFindings). f .lots) p) (ap (λ (faults : PositionFaults). faults .lots) q) (w .lots))
 
 -- ---- the order, by what was found
 
@@ -104,10 +104,22 @@ module _ (ms : List Mark) (none : someMarkFault ms ≡ false) where
   marks-clear w alone = unmet-for (markChecks ms) w (λ c m. clear c)
     where
       clear : (c : MarkCheck) → findingOf (markChecks ms) c ≡ Nothing
-      clear MarkCode = clear-first _ _ (λ i h. let l = markFaults (markAt ms i) in or-left (l .code) _ (or-left (l .code || l .date) _ (or-left (l .code || l .date || l .high) _ (mark-clear i h))))
-      clear MarkDate = clear-first _ _ (λ i h. let l = markFaults (markAt ms i) in or-right (l .code) _ (or-left (l .code || l .date) _ (or-left (l .code || l .date || l .high) _ (mark-clear i h))))
-      clear MarkLimit = clear-first _ _ (λ i h. let l = markFaults (markAt ms i) in or-right (l .code || l .date) _ (or-left (l .code || l .date || l .high) _ (mark-clear i h)))
-      clear MarkTick = clear-first _ _ (λ i h. let l = markFaults (markAt ms i) in or-right (l .code || l .date || l .high) _ (mark-clear i h))
+      clear MarkCode =
+          clear-first _ _
+          (λ i h.
+          let faults = markFaults (markAt ms i) in
+          or-left (faults .code) _ (or-left (faults .code || faults .date) _ (or-left (faults .code || faults .date || faults .high) _ (mark-clear i h))))
+      clear MarkDate =
+          clear-first _ _
+          (λ i h.
+          let faults = markFaults (markAt ms i) in
+          or-right (faults .code) _ (or-left (faults .code || faults .date) _ (or-left (faults .code || faults .date || faults .high) _ (mark-clear i h))))
+      clear MarkLimit =
+          clear-first _ _
+          (λ i h. let faults = markFaults (markAt ms i) in or-right (faults .code || faults .date) _ (or-left (faults .code || faults .date || faults .high) _ (mark-clear i h)))
+      clear MarkTick =
+          clear-first _ _
+          (λ i h. let faults = markFaults (markAt ms i) in or-right (faults .code || faults .date || faults .high) _ (mark-clear i h))
       clear MarkRepeated = alone
 
 module _ (ms : List Mark) (cs : List Correction) (none : someCorrectionFault ms cs ≡ false) where

@@ -9,12 +9,12 @@ use lib.ListN.{length, getD, List·getD-eq-default}
 use borrow.Author.Tests.{le-leb, lt-leb}
 use Rattle.products.specs.Products.{find, findIn, products, sameCode}
 use Rattle.products.specs.declared.table.NamedProduct.{NamedProduct}
-use Rattle.products.specs.declared.table.NamedProduct.the-variants.{At, Missing}
+use Rattle.products.specs.declared.table.NamedProduct.the-variants.{Named, Missing}
 use Rattle.dayfile.specs.Limits.{yearLimit}
 use Rattle.dayfile.specs.Records.{markOf, markAt}
 use Rattle.dayfile.specs.declared.records.Mark.{Mark}
 use Rattle.dayfile.specs.declared.records.Correction.{Correction}
-use Rattle.checks.specs.Table.{aboveLimit, listed, listedIn, quoted, quotedIn, tickOf, tickIn}
+use Rattle.checks.specs.Table.{aboveLimit, listed, listedIn, codeHasMonth, hasMonthIn, tickOf, tickIn}
 use Rattle.checks.specs.Marks.{highMark}
 use Rattle.checks.specs.Faults.{markFaults, faultsBy, correctionFaults, Ticks}
 use Rattle.checks.specs.declared.marks.MarkFaults.{MarkFaults}
@@ -23,22 +23,22 @@ use Rattle.checks.specs.declared.corrections.CorrectionFaults.{Correctio
 -- ---- a mark, by what the lookup of its code found
 
 abbrev pub faultsIn : Mark → NamedProduct → MarkFaults
-faultsIn m (At q) = faultsBy q m
+faultsIn m (Named product) = faultsBy product m
 faultsIn m Missing = record { code = true; date = true; high = highMark m; off = false; tick = 1 }
 
 pub faults-found : (m : Mark) → faultsIn m (find (m .code)) ≡ markFaults m
-unfolding listed quoted tickOf
+unfolding listed codeHasMonth tickOf
 faults-found m = go (find (m .code))
   where
     go : (o : NamedProduct) → faultsIn m o
         ≡ record {
           code = not (listedIn o);
-          date = not (quotedIn o (m .month)) || ltb yearLimit (m .year);
+          date = not (hasMonthIn o (m .month)) || ltb yearLimit (m .year);
           high = highMark m;
           off = not (eqb (m .previous % tickIn o) 0) || not (eqb (m .today % tickIn o) 0);
           tick = tickIn o;
         }
-    go (At q) = refl
+    go (Named product) = refl
     go Missing = rw (mod-one (m .previous), mod-one (m .today))
 
 -- ---- a correction, by the ticks of the marks

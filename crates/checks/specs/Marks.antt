@@ -11,21 +11,21 @@ use Rattle.numbers.specs.Checks.{Check, Checks, only, _before_}
 use Rattle.products.specs.Products.{priceLimit, find, monthsOf, Unlisted}
 use Rattle.products.specs.declared.table.Code.{Code}
 use Rattle.products.specs.declared.table.Product.{Product}
-use Rattle.products.specs.declared.table.NamedProduct.the-variants.{At}
+use Rattle.products.specs.declared.table.NamedProduct.the-variants.{Named}
 use Rattle.dayfile.specs.Limits.{Limits, yearLimit}
 use Rattle.dayfile.specs.Records.{markAt}
 use Rattle.dayfile.specs.declared.records.Mark.{Mark}
-use Rattle.checks.specs.Table.{aboveLimit, listed, quoted, tickOf}
+use Rattle.checks.specs.Table.{aboveLimit, listed, codeHasMonth, tickOf}
 
 -- ---- the words, and the test for each
 
 -- the product table has the code, and the month is one of the product's
-abbrev pub Quoted : Code → ℕ → Type 0
-Quoted code month = (product : Product) × (find code ≡ At product) × List·Memᴰ month (monthsOf product)
+abbrev pub HasMonth : Code → ℕ → Type 0
+HasMonth code month = (product : Product) × (find code ≡ Named product) × List·Memᴰ month (monthsOf product)
 
 -- a price is not a multiple of the tick of a mark's product
 abbrev pub OffTick : Mark → ℕ → Type 0
-OffTick m p = (product : Product) × (find (m .code) ≡ At product) × ¬ (product .tick ∣ p)
+OffTick m p = (product : Product) × (find (m .code) ≡ Named product) × ¬ (product .tick ∣ p)
 
 abbrev pub offTick : Mark → ℕ → Bool
 offTick m p = not (eqb (p % tickOf (m .code)) 0)
@@ -49,7 +49,7 @@ abbrev pub badCode : Mark → Bool
 badCode m = not (listed (m .code))
 
 abbrev pub badDate : Mark → Bool
-badDate m = not (quoted (m .code) (m .month)) || ltb yearLimit (m .year)
+badDate m = not (codeHasMonth (m .code) (m .month)) || ltb yearLimit (m .year)
 
 abbrev pub highMark : Mark → Bool
 highMark m = aboveLimit (m .previous) || aboveLimit (m .today)
@@ -74,7 +74,7 @@ module _ (ms : List Mark) where
   markCheck MarkDate =
       record {
         number = 5;
-        Condition = λ i. let m = markAt ms i in ¬ (Quoted (m .code) (m .month)) ⊎ (yearLimit < m .year);
+        Condition = λ i. let m = markAt ms i in ¬ (HasMonth (m .code) (m .month)) ⊎ (yearLimit < m .year);
         test = λ i. badDate (markAt ms i);
       }
   -- 6: a mark's price is above 1,000,000

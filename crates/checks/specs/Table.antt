@@ -5,19 +5,19 @@ use lib.Dec.{ltb}
 use Rattle.products.specs.Products.{priceLimit, find, hasMonth}
 use Rattle.products.specs.declared.table.Code.{Code}
 use Rattle.products.specs.declared.table.NamedProduct.{NamedProduct}
-use Rattle.products.specs.declared.table.NamedProduct.the-variants.{At, Missing}
+use Rattle.products.specs.declared.table.NamedProduct.the-variants.{Named, Missing}
 
 abbrev pub listedIn : NamedProduct → Bool
-listedIn (At product) = true
+listedIn (Named product) = true
 listedIn Missing = false
 
-abbrev pub quotedIn : NamedProduct → ℕ → Bool
-quotedIn (At product) m = hasMonth product m
-quotedIn Missing m = false
+abbrev pub hasMonthIn : NamedProduct → ℕ → Bool
+hasMonthIn (Named product) m = hasMonth product m
+hasMonthIn Missing m = false
 
 -- a tick, 1 where there is no product
 abbrev pub tickIn : NamedProduct → ℕ
-tickIn (At product) = product .tick
+tickIn (Named product) = product .tick
 tickIn Missing = 1
 
 -- a price is above the highest one
@@ -29,8 +29,8 @@ unfoldable pub listed : Code → Bool
 listed a = listedIn (find a)
 
 -- a month is one of the product's
-unfoldable pub quoted : Code → ℕ → Bool
-quoted a m = quotedIn (find a) m
+unfoldable pub codeHasMonth : Code → ℕ → Bool
+codeHasMonth a m = hasMonthIn (find a) m
 
 -- the product's tick
 unfoldable pub tickOf : Code → ℕ

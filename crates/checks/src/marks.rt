@@ -71,7 +71,7 @@ fn faults(m: Mark) -> MarkFaults
     ensures { λ r. ⌜ r ≡ markFaults m ⌝ }
 {
     match lookup(m.code) {
-        products::NamedProduct::At(product) => faults_by(product, m),
+        products::NamedProduct::Named(product) => faults_by(product, m),
         products::NamedProduct::Missing => MarkFaults {
             code: true,
             date: true,

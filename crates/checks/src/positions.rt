@@ -21,7 +21,7 @@ ghost use Rattle.checks.specs.Positions.{positionChecks, positionListChe
 ghost use Rattle.checks.specs.Faults.{rawFaults, anyPositionFault, somePositionFault};
 ghost use Rattle.checks.specs.Faults.{positionFindings, WithPosition, positionDecision};
 
-// The most lots that a position may have, bought or sold.
+// The most lots that a position may have, long or short.
 const LOTS_LIMIT: u32 = 1_000_000;
 
 // What is wrong with a position by itself.

@@ -3,7 +3,7 @@ use Prim.Native.Nat.{ℕ}
 use lib.IntN.{pos}
 use Rattle.pricing.specs.Calls as calls
 use Rattle.settlement.specs.Settling as settling
-use Rattle.settlement.specs.Prices.{Latest, Never, Price}
+use Rattle.settlement.specs.Prices.{Highest, NoneYet, Numbered}
 use Rattle.settlement.specs.OneMark as marks
 use Rattle.citronreef.specs.declared.Quote.{Quote}
 use Rattle.citronreef.specs.declared.Outcome.{Outcome}
@@ -25,13 +25,13 @@ outcomeOf (settling.refused k i) =
     record { refused = k; index = i; positions = 0; aud = pos 0; nzd = pos 0; resent = 0 }
 
 -- whether a correction decides, and its number
-abbrev pub corrects : Latest → ℕ
-corrects Never = 0
-corrects (Price n p) = 1
+abbrev pub corrects : Highest → ℕ
+corrects NoneYet = 0
+corrects (Numbered n p) = 1
 
-abbrev pub numberOf : Latest → ℕ
-numberOf Never = 0
-numberOf (Price n p) = n
+abbrev pub numberOf : Highest → ℕ
+numberOf NoneYet = 0
+numberOf (Numbered n p) = n
 
 -- what is said of one mark
 abbrev pub markOutcomeOf : marks.MarkAnswer → MarkOutcome

@@ -1,4 +1,4 @@
--- The sections of a file that is laid out.
+-- The sections of a file that has the length of its layout.
 use mathlib.Core.Path.{_≡_, _∙_}
 use mathlib.Core.List.{List, map}
 use Prim.Native.Nat.{ℕ, _+_, _-_, _*_, _/_, _≤_}

@@ -11,7 +11,7 @@ pub record Limits : Type 0 where
 abbrev pub fileLimits : Limits
 fileLimits = record { marks = 256; corrections = 512; positions = 4_096 }
 
--- the last year, and the most lots of a position, bought or sold
+-- the last year, and the most lots of a position, long or short
 abbrev pub yearLimit : ℕ
 yearLimit = 99
 

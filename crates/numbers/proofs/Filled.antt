@@ -43,17 +43,17 @@ module _ {A : Type 0} {d : A} where
 pub record Done {A : Type 0} (d : A) (f : ℕ → A) (n i : ℕ) (r : List A) : Type 0 where
   pub upto : i ≤ n
   pub size : length r ≡ n
-  pub held : Filled d f i r
+  pub filled : Filled d f i r
 
 module _ {A : Type 0} {d : A} {f : ℕ → A} {n : ℕ} where
   pub none-done : {r : List A} → length r ≡ n → Done d f n 0 r
-  none-done e = record { upto = omega arith; size = e; held = filled-none }
+  none-done e = record { upto = omega arith; size = e; filled = filled-none }
 
   pub one-more : {i : ℕ} {r : List A} {v : A} → i < n → v ≡ f i → Done d f n i r → Done d f n (i + 1) (set r i v)
-  one-more h e l = record { upto = omega arith; size = simp length-set (l .size); held = filled-more (rw (l .size) h) e (l .held) }
+  one-more h e l = record { upto = omega arith; size = simp length-set (l .size); filled = filled-more (rw (l .size) h) e (l .filled) }
 
   pub all-done : {i : ℕ} {r : List A} → n ≤ i → Done d f n i r → Filled d f n r
-  all-done h l = record { entry = λ j g. l .held .entry j (le-trans g h) }
+  all-done h l = record { entry = λ j g. l .filled .entry j (le-trans g h) }
 
   -- a list of n places with these values
   pub filled-table : {r : List A} → length r ≡ n → Filled d f n r → r ≡ table f n

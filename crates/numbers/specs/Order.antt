@@ -13,8 +13,8 @@ use Rattle.numbers.specs.declared.deciding.Wanted.{Wanted}
 use Rattle.numbers.specs.declared.deciding.Wanted.the-variants.{All, One}
 
 module _ {R : Type 0} (number : R → ℕ) (Holds : R → ℕ → Type 0) where
-  -- Condition k decides at record i: it holds there and at no record before it, and no condition that stands before it in the order
-  -- holds at any record.
+  -- The condition with the number k decides at record i: it holds there and at no record before it, and no condition that stands before
+  -- it in the order holds at any record.
   pub record Decides (order : List R) (k i : ℕ) : Type 0 where
     pub condition : R
     pub numbered : number condition ≡ k
@@ -37,7 +37,7 @@ module _ {R : Type 0} (number : R → ℕ) (Holds : R → ℕ → Type 0) where
   pub record FindsNone (order : List R) (k : ℕ) : Type 0 where
     pub none : (c : R) → List·Memᴰ c order → number c ≡ k → (j : ℕ) → ¬ (Holds c j)
 
--- none holds at any record
+-- no condition of the order holds at any record
 pub record Clear {R : Type 0} (Holds : R → ℕ → Type 0) (order : List R) : Type 0 where
   pub none : (b : R) → List·Memᴰ b order → (j : ℕ) → ¬ (Holds b j)
 
@@ -65,12 +65,12 @@ decision number finding (c ∷ cs) = pick (finding c) (number c) (decision numbe
 
 -- ---- conditions that are looked at
 
--- whether the condition with the number n is
+-- whether the condition with the number n is looked at
 abbrev pub takes : Wanted → ℕ → Bool
 takes All n = true
 takes (One k) n = eqb k n
 
--- what it found, if it is
+-- what it found, if it is looked at
 abbrev pub sought : Wanted → ℕ → Found → Found
 sought w n o = cond (takes w n) o Nothing
 

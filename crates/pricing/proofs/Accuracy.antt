@@ -17,7 +17,7 @@ use Rattle.pricing.specs.Value.{scale, billDividend, billDivisor, bondDi
 use Rattle.pricing.specs.Accuracy.{twiceDistance, numberIn, accuracyFigures, accuracyOf}
 use Rattle.products.specs.declared.table.Code.{Code}
 use Rattle.products.specs.declared.table.Product.{Product}
-use Rattle.products.specs.declared.table.NamedProduct.the-variants.{At}
+use Rattle.products.specs.declared.table.NamedProduct.the-variants.{Named}
 use Rattle.products.specs.declared.table.Terms.{Terms}
 use Rattle.products.specs.declared.table.Terms.the-variants.{Bill, Bond, CashRate}
 use Rattle.pricing.proofs.Distance.{ladder-distance}
@@ -50,7 +50,7 @@ bracket-close D k l b x Q face a hD hk hQ near room =
         → 1000 * (k * Q) * D + 2000 * face * (l * Q) ≤ D * k * (a * Q)
     p₃ D k l Q face a h = omega (arith, mul-le-mul-left Q h)
 
--- the figure a is large enough for these terms and this tick: a test that is computed
+-- the accuracy figure a is large enough for these terms and this tick: a test that is computed
 unfoldable pub Room : Terms → ℕ → ℕ → Type 0
 Room (Bill face days) tick a = T (leb 1000 a)
 Room (Bond face c n) tick a = T (leb 1 n) × T (leb (1000 * (scale * 2) + 2000 * (twiceDistance c n * face)) (a * (scale * 2)))
@@ -80,23 +80,23 @@ terms-close (CashRate cents) tick a {p} r l h = go (leb 1000 a) (eqb (cents * ti
         close-more (omega arith) (close-whole 1000 (cents * p) 100 (cents * tick / 100 * (p / tick)) (lit≤ tt) (whole-cents cents tick p (kd tt) h))
     go false false kb kd r = absurd r
 
--- every product's figure is large enough
+-- every product's accuracy figure is large enough
 Roomy : Product → Type 0
-Roomy q = (previous final : ℕ) → Room (q .terms) (q .tick) (accuracyOf (q .code) previous final)
+Roomy product = (previous final : ℕ) → Room (product .terms) (product .tick) (accuracyOf (product .code) previous final)
 
 all-roomy : Every Roomy products
 unfolding Roomy Room products scale accuracyOf accuracyFigures numberIn sameCode
 all-roomy = ((λ p f. tt), ((λ p f. tt), ((λ p f. tt), ((λ p f. (tt, tt)), ((λ p f. (tt, tt)), ((λ p f. (tt, tt)), tt))))))
 
-pub product-close : (code : Code) {q : Product} → find code ≡ At q → (previous final : ℕ) {p : ℕ} → Listed q p
-    → Close 1000 (accuracyOf code previous final) (valueBy (q .terms) p) (exactBy (q .terms) p)
+pub product-close : (code : Code) {product : Product} → find code ≡ Named product → (previous final : ℕ) {p : ℕ} → Listed product p
+    → Close 1000 (accuracyOf code previous final) (valueBy (product .terms) p) (exactBy (product .terms) p)
 unfolding find Roomy
-product-close code {q} f previous final h =
-    terms-close (q .terms) (q .tick) _ (rw (← (found-code code f)) (of-found Roomy products code all-roomy f previous final)) (h .within) (h .on-tick)
+product-close code {product} f previous final h =
+    terms-close (product .terms) (product .tick) _ (rw (← (found-code code f)) (of-found Roomy products code all-roomy f previous final)) (h .within) (h .on-tick)
 
 -- lots of a difference of two values
-pub product-accurate : (code : Code) (previous final : ℕ) {m n : ℕ} {q : Product} → find code ≡ At q → Listed q previous → Listed q final
-    → valueBy (q .terms) previous ≡ m → valueBy (q .terms) final ≡ n → (lots : ℤ)
+pub product-accurate : (code : Code) (previous final : ℕ) {m n : ℕ} {product : Product} → find code ≡ Named product → Listed product previous → Listed product final
+    → valueBy (product .terms) previous ≡ m → valueBy (product .terms) final ≡ n → (lots : ℤ)
     → Within (pos 1000 *ℤ (lots *ℤ (pos n -ℤ pos m))) (pos 1000 times lots times (exactOf code final minus exactOf code previous))
     (accuracyOf code previous final * natAbs lots)
 product-accurate code previous final f h k e g lots =

@@ -11,16 +11,16 @@ use Rattle.pricing.specs.Calls.{Answer, given, refused, check, ofProduct
 use Rattle.products.specs.declared.table.Code.{Code}
 use Rattle.products.specs.declared.table.Product.{Product}
 use Rattle.products.specs.declared.table.NamedProduct.{NamedProduct}
-use Rattle.products.specs.declared.table.NamedProduct.the-variants.{At, Missing}
+use Rattle.products.specs.declared.table.NamedProduct.the-variants.{Named, Missing}
 
 -- two answers that differ
 pub not-given : {A : Type 0} {k i n : ℕ} → refused k i ≡ given n → A
 not-given e = absurd (let z : _≡_ {A = ℕ} 0 1 = cc in omega arith)
 
 -- a price of a product: within the limit, and on the tick
-pub record Listed (q : Product) (p : ℕ) : Type 0 where
+pub record Listed (product : Product) (p : ℕ) : Type 0 where
   pub within : p ≤ priceLimit
-  pub on-tick : p % q .tick ≡ 0
+  pub on-tick : p % product .tick ≡ 0
 
 -- a check that is passed on the way to a number
 checked : (k : ℕ) (b : Bool) {a : Answer} {n : ℕ} → check k b a ≡ given n → (b ≡ true) × (a ≡ given n)
@@ -37,51 +37,51 @@ after-price tick p e =
 -- an answer a given at a price of the product that a code names
 pub record Priced (code : Code) (p : ℕ) (a : Product → Answer) (n : ℕ) : Type 0 where
   pub product : Product
-  pub found : find code ≡ At product
+  pub found : find code ≡ Named product
   pub listed : Listed product p
   pub answer : a product ≡ given n
 
-pub answered : (code : Code) (p : ℕ) (a : Product → Answer) {n : ℕ} → ofProduct (find code) (λ q. atPrice (q .tick) p (a q)) ≡ given n → Priced code p a n
+pub answered : (code : Code) (p : ℕ) (a : Product → Answer) {n : ℕ} → ofProduct (find code) (λ product. atPrice (product .tick) p (a product)) ≡ given n → Priced code p a n
 answered code p a {n} = of-found (find code) refl
   where
-    of-found : (f : NamedProduct) → find code ≡ f → ofProduct f (λ q. atPrice (q .tick) p (a q)) ≡ given n → Priced code p a n
-    of-found (At q) f e =
-        let (w, t, g) = after-price (q .tick) p e in
-        record { product = q; found = f; listed = record { within = w; on-tick = t }; answer = g }
+    of-found : (f : NamedProduct) → find code ≡ f → ofProduct f (λ product. atPrice (product .tick) p (a product)) ≡ given n → Priced code p a n
+    of-found (Named product) f e =
+        let (w, t, g) = after-price (product .tick) p e in
+        record { product = product; found = f; listed = record { within = w; on-tick = t }; answer = g }
     of-found Missing f e = not-given e
 
--- a value that is given is the product's, at a listed price
+-- a value that is given is the product's, at a price within the limit and on the tick
 pub record Valued (code : Code) (p n : ℕ) : Type 0 where
   pub product : Product
-  pub found : find code ≡ At product
+  pub found : find code ≡ Named product
   pub listed : Listed product p
   pub is : valueBy (product .terms) p ≡ n
 
 pub valued : (code : Code) (p : ℕ) {n : ℕ} → valueOf code p ≡ given n → Valued code p n
 unfolding valueOf
 valued code p e =
-    let h = answered code p (λ q. given (valueBy (q .terms) p)) e in
+    let h = answered code p (λ product. given (valueBy (product .terms) p)) e in
     let k = h .answer in
     record { product = h .product; found = h .found; listed = h .listed; is = cc }
 
 -- and the other way round
-pub gives-value : (code : Code) (p : ℕ) {q : Product} → find code ≡ At q → Listed q p → valueOf code p ≡ given (valueBy (q .terms) p)
+pub gives-value : (code : Code) (p : ℕ) {product : Product} → find code ≡ Named product → Listed product p → valueOf code p ≡ given (valueBy (product .terms) p)
 unfolding valueOf
-gives-value code p {q} f h = rw (f, le-leb p priceLimit (h .within), eq-eqb (p % q .tick) 0 (h .on-tick))
+gives-value code p {product} f h = rw (f, le-leb p priceLimit (h .within), eq-eqb (p % product .tick) 0 (h .on-tick))
 
--- a tick value that is given: the price is listed, the next one is within the limit, and this is their values' difference
-pub tick-valued : (code : Code) (p : ℕ) {d : ℕ} {q : Product} → find code ≡ At q → tickValueOf code p ≡ given d
-    → Listed q p × (valueBy (q .terms) (p + q .tick) - valueBy (q .terms) p ≡ d) × (p + q .tick ≤ priceLimit)
+-- a tick value that is given: the price is within the limit and on the tick, the next one is within the limit, and this is their values' difference
+pub tick-valued : (code : Code) (p : ℕ) {d : ℕ} {product : Product} → find code ≡ Named product → tickValueOf code p ≡ given d
+    → Listed product p × (valueBy (product .terms) (p + product .tick) - valueBy (product .terms) p ≡ d) × (p + product .tick ≤ priceLimit)
 unfolding tickValueOf
-tick-valued code p {d} {q} f e =
-    let h = answered code p (λ q. check 15 (leb (p + q .tick) priceLimit) (given (valueBy (q .terms) (p + q .tick) - valueBy (q .terms) p))) e in
+tick-valued code p {d} {product} f e =
+    let h = answered code p (λ product. check 15 (leb (p + product .tick) priceLimit) (given (valueBy (product .terms) (p + product .tick) - valueBy (product .terms) p))) e in
     let g = h .found in
-    let same : h .product ≡ q = cc in
-    let l : Listed q p = rw (← same) (h .listed) in
-    let (b, a) = checked 15 (leb (p + q .tick) priceLimit) (rw same at (h .answer)) in
+    let same : h .product ≡ product = cc in
+    let l : Listed product p = rw (← same) (h .listed) in
+    let (b, a) = checked 15 (leb (p + product .tick) priceLimit) (rw same at (h .answer)) in
     (l, cc, leb-true _ _ b)
 
 -- the exact value of a code in the table
-pub exact-of : (code : Code) (p : ℕ) {q : Product} → find code ≡ At q → exactOf code p ≡ exactBy (q .terms) p
+pub exact-of : (code : Code) (p : ℕ) {product : Product} → find code ≡ Named product → exactOf code p ≡ exactBy (product .terms) p
 unfolding exactOf
 exact-of code p f = rw f

@@ -14,7 +14,7 @@ use Rattle.pricing.specs.Accuracy.{twiceDistance}
 use Rattle.products.specs.declared.table.Code.{Code}
 use Rattle.products.specs.declared.table.Product.{Product}
 use Rattle.products.specs.declared.table.NamedProduct.{NamedProduct}
-use Rattle.products.specs.declared.table.NamedProduct.the-variants.{At, Missing}
+use Rattle.products.specs.declared.table.NamedProduct.the-variants.{Named, Missing}
 use Rattle.products.specs.declared.table.Terms.{Terms}
 use Rattle.products.specs.declared.table.Terms.the-variants.{Bill, Bond, CashRate}
 use Rattle.pricing.proofs.Distance.{ladder-distance}
@@ -22,10 +22,10 @@ use Rattle.products.proofs.Finding.{Every, of-found, found-code}
 use Rattle.pricing.proofs.Bounds.{scale-positive, bond-divisor}
 use Rattle.pricing.proofs.Answers.{Listed, not-given, after-price}
 
--- the bracket b of a bond at a listed price
+-- the bracket b of a bond at a price within the limit and on the tick
 pub record Bracketed (code : Code) (p b : ℕ) : Type 0 where
   pub product : Product
-  pub found : find code ≡ At product
+  pub found : find code ≡ Named product
   pub listed : Listed product p
   pub face : ℕ
   pub coupon : ℕ
@@ -34,12 +34,13 @@ pub record Bracketed (code : Code) (p b : ℕ) : Type 0 where
   pub is : bracket scale coupon halves (bondDivisor p) ≡ b
 
 module _ (code : Code) (p : ℕ) {b : ℕ} where
-  of-terms : (q : Product) → find code ≡ At q → (t : Terms) → q .terms ≡ t → ofBond t (λ c n. atPrice (q .tick) p (given (bracket scale c n (bondDivisor p)))) ≡ given b → Bracketed code p b
-  of-terms q f (Bill face days) t e = not-given e
-  of-terms q f (Bond face c n) t e =
-      let (w, m, is) = after-price (q .tick) p e in
+  of-terms : (product : Product) → find code ≡ Named product → (t : Terms) → product .terms ≡ t
+      → ofBond t (λ c n. atPrice (product .tick) p (given (bracket scale c n (bondDivisor p)))) ≡ given b → Bracketed code p b
+  of-terms product f (Bill face days) t e = not-given e
+  of-terms product f (Bond face c n) t e =
+      let (w, m, is) = after-price (product .tick) p e in
       record {
-        product = q;
+        product = product;
         found = f;
         listed = record { within = w; on-tick = m };
         face = face;
@@ -48,10 +49,11 @@ module _ (code : Code) (p : ℕ) {b : ℕ} where
         terms = t;
         is = cc;
       }
-  of-terms q f (CashRate cents) t e = not-given e
+  of-terms product f (CashRate cents) t e = not-given e
 
-  of-lookup : (f : NamedProduct) → find code ≡ f → ofProduct f (λ q. ofBond (q .terms) (λ c n. atPrice (q .tick) p (given (bracket scale c n (bondDivisor p))))) ≡ given b → Bracketed code p b
-  of-lookup (At q) f e = of-terms q f (q .terms) refl e
+  of-lookup : (f : NamedProduct) → find code ≡ f
+      → ofProduct f (λ product. ofBond (product .terms) (λ c n. atPrice (product .tick) p (given (bracket scale c n (bondDivisor p))))) ≡ given b → Bracketed code p b
+  of-lookup (Named product) f e = of-terms product f (product .terms) refl e
   of-lookup Missing f e = not-given e
 
   pub bracketed : bracketOf code p ≡ given b → Bracketed code p b
@@ -64,7 +66,7 @@ HasHalves (Bill face days) = Unit {0}
 HasHalves (Bond face c n) = 1 ≤ n
 HasHalves (CashRate cents) = Unit {0}
 
-all-have-halves : Every (λ q. HasHalves (q .terms)) products
+all-have-halves : Every (λ product. HasHalves (product .terms)) products
 unfolding HasHalves products
 all-have-halves = (tt, (tt, (tt, (lit≤ tt, (lit≤ tt, (lit≤ tt, tt))))))
 
@@ -73,6 +75,6 @@ pub bracket-near : (code : Code) (p : ℕ) {b : ℕ} (h : Bracketed code p b)
     (twiceDistance (h .coupon) (h .halves) * bondDivisor p ^ h .halves)
 unfolding find HasHalves
 bracket-near code p h =
-    let n = rw (h .terms) at (of-found (λ q. HasHalves (q .terms)) products code all-have-halves (h .found)) in
+    let n = rw (h .terms) at (of-found (λ product. HasHalves (product .terms)) products code all-have-halves (h .found)) in
     near-as (ladder-distance scale (h .coupon) (h .halves) (bondDivisor p) scale-positive n (bond-divisor (h .listed .within) .0))
     (rw (← (h .is))) refl (le-refl _)

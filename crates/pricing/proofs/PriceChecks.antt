@@ -20,9 +20,9 @@ after Passed a = a
 after (Failed k) a = refused k 0
 
 module _ (tick p : ℕ) where
-  pub as-price-checked : (a : Answer) → after (priceChecked tick p) a ≡ atPrice tick p a
+  pub as-at-price : (a : Answer) → after (priceChecked tick p) a ≡ atPrice tick p a
   unfolding priceChecked
-  as-price-checked a = by-tests (leb p priceLimit) (eqb (p % tick) 0)
+  as-at-price a = by-tests (leb p priceLimit) (eqb (p % tick) 0)
     where
       by-tests : (b d : Bool) → after (cond b (cond d Passed (Failed 7)) (Failed 6)) a ≡ check 6 b (check 7 d a)
       by-tests true true = refl
@@ -35,16 +35,16 @@ module _ (tick p : ℕ) where
   both false d e = not-passed e
 
   -- a price that passes is within the limit and on the tick
-  pub passed : {j : PriceChecked} → j ≡ priceChecked tick p → j ≡ Passed → (p ≤ priceLimit) × (p % tick ≡ 0)
+  pub passed : {checked : PriceChecked} → checked ≡ priceChecked tick p → checked ≡ Passed → (p ≤ priceLimit) × (p % tick ≡ 0)
   unfolding priceChecked
   passed d e =
       let (f, g) = both (leb p priceLimit) (eqb (p % tick) 0) (sym d ∙ e) in
       (leb-true _ _ f, eqb-true _ _ g)
 
 -- the answer to a price that passes, and to one that fails
-module _ (tick p : ℕ) {j : PriceChecked} (is : j ≡ priceChecked tick p) where
-  pub passes : {v w : ℕ} → j ≡ Passed → v ≡ w → given v ≡ atPrice tick p (given w)
-  passes {w = w} e g = rw (← (as-price-checked tick p (given w)), ← is, e, g)
+module _ (tick p : ℕ) {checked : PriceChecked} (is : checked ≡ priceChecked tick p) where
+  pub passes : {v w : ℕ} → checked ≡ Passed → v ≡ w → given v ≡ atPrice tick p (given w)
+  passes {w = w} e g = rw (← (as-at-price tick p (given w)), ← is, e, g)
 
-  pub fails : {k : ℕ} (a : Answer) → j ≡ Failed k → refused k 0 ≡ atPrice tick p a
-  fails a e = rw (← (as-price-checked tick p a), ← is, e)
+  pub fails : {k : ℕ} (a : Answer) → checked ≡ Failed k → refused k 0 ≡ atPrice tick p a
+  fails a e = rw (← (as-at-price tick p a), ← is, e)

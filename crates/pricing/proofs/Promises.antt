@@ -21,7 +21,7 @@ use Rattle.pricing.specs.Conditions.{checkNumber, valueChecks, tickValue
 use Rattle.pricing.specs.Accuracy.{twiceDistance, entry, numberIn, distancesIn, accuracyFigures, accuracyOf}
 use Rattle.products.specs.declared.table.Code.{Code}
 use Rattle.products.specs.declared.table.Product.{Product}
-use Rattle.products.specs.declared.table.NamedProduct.the-variants.{At}
+use Rattle.products.specs.declared.table.NamedProduct.the-variants.{Named}
 use Rattle.products.specs.declared.table.Terms.{Terms}
 use Rattle.products.specs.declared.table.Terms.the-variants.{Bill, Bond, CashRate}
 use Rattle.pricing.proofs.Distance as distance
@@ -52,8 +52,8 @@ ladder-distance D c n Y hD hn = distance.ladder-distance D c n (base + Y) hD hn 
 pub exact-bracket : (c n Y : ℕ) → Same (exactBracket c n (base + Y)) (record { num = wholeBracket c n (base + Y); den = (base + Y) ^ n })
 exact-bracket c n Y = exact.bracket-whole (base + Y) (omega arith) c n
 
--- So does the bracket that is given for a bond of the table.
-pub bracket-distance : (code : Code) (p : ℕ) {b face c n : ℕ} {product : Product} → find code ≡ At product → product .terms ≡ Bond face c n → bracketOf code p ≡ given b
+-- The bracket that is given for a bond of the table lies within the distance too.
+pub bracket-distance : (code : Code) (p : ℕ) {b face c n : ℕ} {product : Product} → find code ≡ Named product → product .terms ≡ Bond face c n → bracketOf code p ≡ given b
     → Near (2 * (b * bondDivisor p ^ n)) (2 * (scale * wholeBracket c n (bondDivisor p))) (twiceDistance c n * bondDivisor p ^ n)
 bracket-distance code p {c} {n} {product} f t e =
     let h = bracketed code p e in
@@ -100,7 +100,7 @@ value-rises code {p} {p'} l e e' =
     rw (← (h .is), ← (h' .is), s) (value-by-rises (h .product .terms) l (h' .listed .within))
 
 -- So a tick value is what the next value has more: the subtraction of naturals in its definition cuts nothing off.
-pub tick-value-adds : (code : Code) (p : ℕ) {d : ℕ} {product : Product} → find code ≡ At product → tickValueOf code p ≡ given d
+pub tick-value-adds : (code : Code) (p : ℕ) {d : ℕ} {product : Product} → find code ≡ Named product → tickValueOf code p ≡ given d
     → (m : ℕ) × (valueOf code p ≡ given m) × (valueOf code (p + product .tick) ≡ given (m + d))
 tick-value-adds code p {product = product} f e =
     let (h, d, g) = tick-valued code p f e in
@@ -109,20 +109,6 @@ tick-value-adds code p {product = product} f e =
       gives-value code p f h,
       gives-value code (p + product .tick) f (record { within = g; on-tick = add-mod-right p (product .tick) ∙ h .on-tick }) ∙ ap given (omega arith),
     )
-
--- A bond's value is the bracket that is given, times face and divided by 10^8, rounded.
-pub value-by-bracket : (code : Code) (p : ℕ) {b face c n : ℕ} {product : Product} → find code ≡ At product → product .terms ≡ Bond face c n → bracketOf code p ≡ given b
-    → valueOf code p ≡ given (nearest (b * face) 100_000_000)
-unfolding valueBy scale
-value-by-bracket code p {b} {face} {c} {n} {product} f t e =
-    let h = bracketed code p e in
-    let g = h .found in
-    let u = h .terms in
-    let same : h .product ≡ product = cc in
-    let same-c : h .coupon ≡ c = cc in
-    let same-n : h .halves ≡ n = cc in
-    let is : bracket scale c n (bondDivisor p) ≡ b = rw (← same-c, ← same-n) (h .is) in
-    gives-value code p f (rw (← same) (h .listed)) ∙ ap given (rw (t, is))
 
 -- ---- the exact value: the formula without any rounding
 
@@ -143,13 +129,13 @@ exact-bond face c n p =
     record { proper = (s .proper .1, s .proper .0); same = omega (arith, ap (λ (t : ℕ). t * face) (s .same)) }
 
 -- of the product that a code names
-pub exact-named : (code : Code) (p : ℕ) {product : Product} → find code ≡ At product → exactOf code p ≡ exactBy (product .terms) p
+pub exact-named : (code : Code) (p : ℕ) {product : Product} → find code ≡ Named product → exactOf code p ≡ exactBy (product .terms) p
 exact-named code p f = exact-of code p f
 
 -- ---- accuracy
 
--- For any lots and any two prices at which values are given: 1,000 times lots times the difference of the values lies within the product's figure
--- times the lots without their sign of 1,000 times lots times the difference of the exact values.
+-- For any lots and any two prices at which values are given: 1,000 times lots times the difference of the values lies within the product's accuracy
+-- figure times the lots without their sign of 1,000 times lots times the difference of the exact values.
 pub accurate : (code : Code) (previous final : ℕ) {m n : ℕ} → valueOf code previous ≡ given m → valueOf code final ≡ given n → (lots : ℤ)
     → Within (pos 1000 *ℤ (lots *ℤ (pos n -ℤ pos m))) (pos 1000 times lots times (exactOf code final minus exactOf code previous))
     (accuracyOf code previous final * natAbs lots)
@@ -159,7 +145,7 @@ accurate code previous final e f lots =
     let same : k .product ≡ h .product = let g = h .found in let g' = k .found in cc in
     product-accurate code previous final (h .found) (h .listed) (rw (← same) (k .listed)) (h .is) (rw (← same) (k .is)) lots
 
--- The figures of the six products, whatever the prices.
+-- The accuracy figures of the six products, whatever the prices.
 pub figures-are : (previous final : ℕ) → map (λ product. accuracyOf (product .code) previous final) products ≡ 1_000 ∷ 1_000 ∷ 0 ∷ 2_208 ∷ 6_100 ∷ 6_550 ∷ []
 unfolding products accuracyOf accuracyFigures numberIn sameCode
 figures-are previous final = refl
@@ -180,7 +166,7 @@ value-cap code p e =
 -- ---- the formulas in document 01's numbers
 
 -- A value is given for each code of the table at each price within the limit and on the tick.
-pub value-given : (code : Code) {product : Product} {p : ℕ} → find code ≡ At product → p ≤ priceLimit → p % product .tick ≡ 0 → valueOf code p ≡ given (valueBy (product .terms) p)
+pub value-given : (code : Code) {product : Product} {p : ℕ} → find code ≡ Named product → p ≤ priceLimit → p % product .tick ≡ 0 → valueOf code p ≡ given (valueBy (product .terms) p)
 value-given code {p = p} f l t = gives-value code p f (record { within = l; on-tick = t })
 
 -- A bill: 3,650,000,000,000,000 divided by (36,500,000 + 9 times Y), rounded once.
@@ -216,3 +202,17 @@ bracket-formula c n p = refl
 pub bond-formula : (face c n p : ℕ) → valueBy (Bond face c n) p ≡ nearest (bracket scale c n (bondDivisor p) * face) 100_000_000
 unfolding valueBy scale
 bond-formula face c n p = refl
+
+-- A bond's value is the bracket that is given, times face and divided by 10^8, rounded.
+pub value-by-bracket : (code : Code) (p : ℕ) {b face c n : ℕ} {product : Product} → find code ≡ Named product → product .terms ≡ Bond face c n → bracketOf code p ≡ given b
+    → valueOf code p ≡ given (nearest (b * face) 100_000_000)
+unfolding valueBy scale
+value-by-bracket code p {b} {face} {c} {n} {product} f t e =
+    let h = bracketed code p e in
+    let g = h .found in
+    let u = h .terms in
+    let same : h .product ≡ product = cc in
+    let same-c : h .coupon ≡ c = cc in
+    let same-n : h .halves ≡ n = cc in
+    let is : bracket scale c n (bondDivisor p) ≡ b = rw (← same-c, ← same-n) (h .is) in
+    gives-value code p f (rw (← same) (h .listed)) ∙ ap given (rw (t, is))

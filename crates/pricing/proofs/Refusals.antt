@@ -21,7 +21,7 @@ use Rattle.pricing.specs.Conditions.{ContractCheck, NoProduct, NoBond, A
 use Rattle.products.specs.declared.table.Code.{Code}
 use Rattle.products.specs.declared.table.Product.{Product}
 use Rattle.products.specs.declared.table.NamedProduct.{NamedProduct}
-use Rattle.products.specs.declared.table.NamedProduct.the-variants.{At, Missing}
+use Rattle.products.specs.declared.table.NamedProduct.the-variants.{Named, Missing}
 use Rattle.products.specs.declared.table.Terms.{Terms}
 use Rattle.products.specs.declared.table.Terms.the-variants.{Bill, Bond, CashRate}
 use Rattle.products.proofs.Finding.{tells-unlisted, tells-product}
@@ -29,7 +29,7 @@ use Rattle.products.proofs.Finding.{tells-unlisted, tells-product}
 -- ---- the tests, by what a lookup found
 
 abbrev missing : NamedProduct → Bool
-missing (At q) = false
+missing (Named product) = false
 missing Missing = true
 
 abbrev isBond : Terms → Bool
@@ -38,15 +38,15 @@ isBond (Bond face c n) = true
 isBond (CashRate cents) = false
 
 abbrev noBond : NamedProduct → Bool
-noBond (At q) = not (isBond (q .terms))
+noBond (Named product) = not (isBond (product .terms))
 noBond Missing = true
 
 abbrev offTick : NamedProduct → ℕ → Bool
-offTick (At q) p = not (eqb (p % q .tick) 0)
+offTick (Named product) p = not (eqb (p % product .tick) 0)
 offTick Missing p = false
 
 abbrev nextAbove : NamedProduct → ℕ → Bool
-nextAbove (At q) p = not (leb (p + q .tick) priceLimit)
+nextAbove (Named product) p = not (leb (p + product .tick) priceLimit)
 nextAbove Missing p = false
 
 abbrev testOf : NamedProduct → ℕ → ContractCheck → Bool
@@ -62,32 +62,32 @@ finding f p c = cond (testOf f p c) (index.At 0) index.Nothing
 -- ---- what each test tells of the code and the price
 
 module _ (code : Code) (p : ℕ) where
-  tells-no-bond : (f : NamedProduct) → find code ≡ f → Tells (noBond f) ((q : Product) → find code ≡ At q → (face c n : ℕ) → ¬ (q .terms ≡ Bond face c n))
+  tells-no-bond : (f : NamedProduct) → find code ≡ f → Tells (noBond f) ((product : Product) → find code ≡ Named product → (face c n : ℕ) → ¬ (product .terms ≡ Bond face c n))
   tells-no-bond Missing e =
-      record { yes = λ b q g. absurd (let z : _≡_ {A = ℕ} 0 1 = cc in omega arith); no = λ b. not-both refl b }
-  tells-no-bond (At q) e = by-terms (q .terms) refl
+      record { yes = λ b product g. absurd (let z : _≡_ {A = ℕ} 0 1 = cc in omega arith); no = λ b. not-both refl b }
+  tells-no-bond (Named product) e = by-terms (product .terms) refl
     where
-      other : (t : Terms) → q .terms ≡ t → isBond t ≡ false → (r : Product) → find code ≡ At r → (face c n : ℕ) → ¬ (r .terms ≡ Bond face c n)
+      other : (t : Terms) → product .terms ≡ t → isBond t ≡ false → (r : Product) → find code ≡ Named r → (face c n : ℕ) → ¬ (r .terms ≡ Bond face c n)
       other t d b r g face c n h =
-          let same : r ≡ q = cc in
+          let same : r ≡ product = cc in
           let w : t ≡ Bond face c n = cc in
           not-both refl (rw w at b)
 
-      by-terms : (t : Terms) → q .terms ≡ t → Tells (not (isBond t)) ((r : Product) → find code ≡ At r → (face c n : ℕ) → ¬ (r .terms ≡ Bond face c n))
+      by-terms : (t : Terms) → product .terms ≡ t → Tells (not (isBond t)) ((r : Product) → find code ≡ Named r → (face c n : ℕ) → ¬ (r .terms ≡ Bond face c n))
       by-terms (Bill face days) d = record { yes = λ b. other (Bill face days) d refl; no = λ b. not-both refl b }
       by-terms (CashRate cents) d = record { yes = λ b. other (CashRate cents) d refl; no = λ b. not-both refl b }
-      by-terms (Bond face c n) d = record { yes = λ b. not-both b refl; no = λ b h. h q e face c n d }
+      by-terms (Bond face c n) d = record { yes = λ b. not-both b refl; no = λ b h. h product e face c n d }
 
   finds : (c : ContractCheck) → Finds (HoldsAt code p c) (finding (find code) p c)
-  finds NoProduct = finds-whole (missing (find code)) (tells-unlisted code missing (λ q. refl) refl)
+  finds NoProduct = finds-whole (missing (find code)) (tells-unlisted code missing (λ product. refl) refl)
   finds NoBond = finds-whole (noBond (find code)) (tells-no-bond (find code) refl)
   finds AboveLimit = finds-whole (not (leb p priceLimit)) (tells-above p priceLimit)
   finds OffTick =
       finds-whole (offTick (find code) p)
-      (tells-product code (λ f. offTick f p) {A = λ q. ¬ (q .tick ∣ p)} (λ q. tells-not (eqb (p % q .tick) 0) (tells-divides (q .tick) p)) refl)
+      (tells-product code (λ f. offTick f p) {A = λ product. ¬ (product .tick ∣ p)} (λ product. tells-not (eqb (p % product .tick) 0) (tells-divides (product .tick) p)) refl)
   finds NextAboveLimit =
       finds-whole (nextAbove (find code) p)
-      (tells-product code (λ f. nextAbove f p) {A = λ q. priceLimit < p + q .tick} (λ q. tells-above (p + q .tick) priceLimit) refl)
+      (tells-product code (λ f. nextAbove f p) {A = λ product. priceLimit < p + product .tick} (λ product. tells-above (p + product .tick) priceLimit) refl)
 
 -- ---- the answers go by the decision
 
@@ -112,11 +112,11 @@ by-next false a = refl
 
 -- the number asked for of the product that was found
 abbrev valueIn : ℕ → NamedProduct → ℕ
-valueIn p (At q) = valueBy (q .terms) p
+valueIn p (Named product) = valueBy (product .terms) p
 valueIn p Missing = 0
 
 abbrev tickValueIn : ℕ → NamedProduct → ℕ
-tickValueIn p (At q) = valueBy (q .terms) (p + q .tick) - valueBy (q .terms) p
+tickValueIn p (Named product) = valueBy (product .terms) (p + product .tick) - valueBy (product .terms) p
 tickValueIn p Missing = 0
 
 abbrev bracketBy : ℕ → Terms → ℕ
@@ -125,35 +125,35 @@ bracketBy p (Bond face c n) = bracket scale c n (bondDivisor p)
 bracketBy p (CashRate cents) = 0
 
 abbrev bracketIn : ℕ → NamedProduct → ℕ
-bracketIn p (At q) = bracketBy p (q .terms)
+bracketIn p (Named product) = bracketBy p (product .terms)
 bracketIn p Missing = 0
 
-by-value : (f : NamedProduct) (p : ℕ) → ofProduct f (λ q. atPrice (q .tick) p (given (valueBy (q .terms) p))) ≡ answerBy (decide f p valueChecks) (given (valueIn p f))
+by-value : (f : NamedProduct) (p : ℕ) → ofProduct f (λ product. atPrice (product .tick) p (given (valueBy (product .terms) p))) ≡ answerBy (decide f p valueChecks) (given (valueIn p f))
 by-value Missing p = refl
-by-value (At q) p = by-price (leb p priceLimit) (eqb (p % q .tick) 0) (given (valueBy (q .terms) p)) Unmet
+by-value (Named product) p = by-price (leb p priceLimit) (eqb (p % product .tick) 0) (given (valueBy (product .terms) p)) Unmet
 
 by-tick-value : (f : NamedProduct) (p : ℕ)
-    → ofProduct f (λ q. atPrice (q .tick) p (check 15 (leb (p + q .tick) priceLimit) (given (valueBy (q .terms) (p + q .tick) - valueBy (q .terms) p))))
+    → ofProduct f (λ product. atPrice (product .tick) p (check 15 (leb (p + product .tick) priceLimit) (given (valueBy (product .terms) (p + product .tick) - valueBy (product .terms) p))))
     ≡ answerBy (decide f p tickValueChecks) (given (tickValueIn p f))
 by-tick-value Missing p = refl
-by-tick-value (At q) p =
-    let a = given (valueBy (q .terms) (p + q .tick) - valueBy (q .terms) p) in
-    ap (atPrice (q .tick) p) (by-next (leb (p + q .tick) priceLimit) a)
-    ∙ by-price (leb p priceLimit) (eqb (p % q .tick) 0) a (pick (cond (not (leb (p + q .tick) priceLimit)) (index.At 0) index.Nothing) 15 Unmet)
+by-tick-value (Named product) p =
+    let a = given (valueBy (product .terms) (p + product .tick) - valueBy (product .terms) p) in
+    ap (atPrice (product .tick) p) (by-next (leb (p + product .tick) priceLimit) a)
+    ∙ by-price (leb p priceLimit) (eqb (p % product .tick) 0) a (pick (cond (not (leb (p + product .tick) priceLimit)) (index.At 0) index.Nothing) 15 Unmet)
 
 by-bracket : (f : NamedProduct) (p : ℕ)
-    → ofProduct f (λ q. ofBond (q .terms) (λ c n. atPrice (q .tick) p (given (bracket scale c n (bondDivisor p)))))
+    → ofProduct f (λ product. ofBond (product .terms) (λ c n. atPrice (product .tick) p (given (bracket scale c n (bondDivisor p)))))
     ≡ answerBy (decide f p bracketChecks) (given (bracketIn p f))
 by-bracket Missing p = refl
-by-bracket (At q) p = by-terms (q .terms)
+by-bracket (Named product) p = by-terms (product .terms)
   where
-    by-terms : (t : Terms) → ofBond t (λ c n. atPrice (q .tick) p (given (bracket scale c n (bondDivisor p))))
+    by-terms : (t : Terms) → ofBond t (λ c n. atPrice (product .tick) p (given (bracket scale c n (bondDivisor p))))
         ≡ answerBy (pick (cond (not (isBond t)) (index.At 0) index.Nothing) 4
         (pick (cond (not (leb p priceLimit)) (index.At 0) index.Nothing) 6
-        (pick (cond (not (eqb (p % q .tick) 0)) (index.At 0) index.Nothing) 7 Unmet))) (given (bracketBy p t))
+        (pick (cond (not (eqb (p % product .tick) 0)) (index.At 0) index.Nothing) 7 Unmet))) (given (bracketBy p t))
     by-terms (Bill face days) = refl
     by-terms (CashRate cents) = refl
-    by-terms (Bond face c n) = by-price (leb p priceLimit) (eqb (p % q .tick) 0) (given (bracket scale c n (bondDivisor p))) Unmet
+    by-terms (Bond face c n) = by-price (leb p priceLimit) (eqb (p % product .tick) 0) (given (bracket scale c n (bondDivisor p))) Unmet
 
 -- ---- exactly
 

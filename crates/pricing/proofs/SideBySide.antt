@@ -18,13 +18,13 @@ use Rattle.pricing.specs.Rungs.{rungAt, nextOf, Low, noRung, AllLow, Wit
 use Rattle.products.specs.declared.table.Code.{Code}
 use Rattle.products.specs.declared.table.Product.{Product}
 use Rattle.products.specs.declared.table.NamedProduct.{NamedProduct}
-use Rattle.products.specs.declared.table.NamedProduct.the-variants.{At, Missing}
+use Rattle.products.specs.declared.table.NamedProduct.the-variants.{Named, Missing}
 use Rattle.products.specs.declared.table.Terms.{Terms}
 use Rattle.products.specs.declared.table.Terms.the-variants.{Bond}
 use Rattle.pricing.specs.declared.contract.PriceChecked.{PriceChecked}
 use Rattle.pricing.specs.declared.contract.PriceChecked.the-variants.{Passed, Failed}
 use Rattle.pricing.specs.declared.ladder.Rung.{Rung}
-use Rattle.pricing.proofs.PriceChecks.{after, as-price-checked, passed}
+use Rattle.pricing.proofs.PriceChecks.{after, as-at-price, passed}
 use Rattle.pricing.proofs.Climbing.{next-rung, rung-low, rung-bracket, face-low}
 
 -- the ladders at k
@@ -59,7 +59,7 @@ module _ (tick : ℕ) (p : List ℕ) {r : Bool} (is : r ≡ some (λ i. isFailed
   passes : (i : ℕ) → i < lanes → priceChecked tick (getD p i 0) ≡ Passed
   passes i g = go (priceChecked tick (getD p i 0)) refl (some-clear (λ k. isFailed (priceChecked tick (getD p k 0))) lanes i (sym is ∙ none) g)
     where
-      go : (j : PriceChecked) → priceChecked tick (getD p i 0) ≡ j → isFailed j ≡ false → priceChecked tick (getD p i 0) ≡ Passed
+      go : (checked : PriceChecked) → priceChecked tick (getD p i 0) ≡ checked → isFailed checked ≡ false → priceChecked tick (getD p i 0) ≡ Passed
       go Passed e f = e
       go (Failed k) e f = not-both refl f
 
@@ -71,18 +71,19 @@ module _ (tick : ℕ) (p : List ℕ) {r : Bool} (is : r ≡ some (λ i. isFailed
 
 -- a value by the product's terms is the call's
 pub value-if-passed-is : (t : Terms) (tick p : ℕ) → ifPassed (priceChecked tick p) (valueBy t p) ≡ orZero (atPrice tick p (given (valueBy t p)))
-value-if-passed-is t tick p = by-price-checked (priceChecked tick p) ∙ ap orZero (as-price-checked tick p (given (valueBy t p)))
+value-if-passed-is t tick p = by-outcome (priceChecked tick p) ∙ ap orZero (as-at-price tick p (given (valueBy t p)))
   where
-    by-price-checked : (j : PriceChecked) → ifPassed j (valueBy t p) ≡ orZero (after j (given (valueBy t p)))
-    by-price-checked Passed = refl
-    by-price-checked (Failed k) = refl
+    by-outcome : (checked : PriceChecked) → ifPassed checked (valueBy t p) ≡ orZero (after checked (given (valueBy t p)))
+    by-outcome Passed = refl
+    by-outcome (Failed k) = refl
 
 module _ (code : Code) (p : List ℕ) {o : NamedProduct} (is : o ≡ find code) where
-  pub values-are : (q : Product) {w : List ℕ} → o ≡ At q → length w ≡ lanes → Filled 0 (λ i. ifPassed (priceChecked (q .tick) (getD p i 0)) (valueBy (q .terms) (getD p i 0))) lanes w
+  pub values-are : (product : Product) {w : List ℕ} → o ≡ Named product → length w ≡ lanes
+      → Filled 0 (λ i. ifPassed (priceChecked (product .tick) (getD p i 0)) (valueBy (product .terms) (getD p i 0))) lanes w
       → w ≡ valuesOrZero code p
   unfolding valueOf valuesOrZero
-  values-are q e n a =
-      filled-table {f = λ i. orZero (valueOf code (getD p i 0))} n (record { entry = λ i g. a .entry i g ∙ rw (← is, e) (value-if-passed-is (q .terms) (q .tick) (getD p i 0)) })
+  values-are product e n a =
+      filled-table {f = λ i. orZero (valueOf code (getD p i 0))} n (record { entry = λ i g. a .entry i g ∙ rw (← is, e) (value-if-passed-is (product .terms) (product .tick) (getD p i 0)) })
 
   pub no-values : o ≡ Missing → replicate lanes 0 ≡ valuesOrZero code p
   unfolding valueOf valuesOrZero

@@ -33,13 +33,13 @@ distanceBy code (CashRate cents) = []
 
 unfoldable pub distancesIn : List Product → List Entry
 distancesIn [] = []
-distancesIn (product ∷ qs) = distanceBy (product .code) (product .terms) ++ distancesIn qs
+distancesIn (product ∷ rest) = distanceBy (product .code) (product .terms) ++ distancesIn rest
 
 -- the accuracy figures, in thousandths of a cent for each lot
 unfoldable pub accuracyFigures : List Entry
 accuracyFigures =
     entry IB 0 ∷ entry IR 1_000 ∷ entry BB 1_000 ∷ entry YT 2_208 ∷ entry XT 6_100 ∷ entry XX 6_550 ∷ []
 
--- the figure of a product for two prices, the previous and the final one. It goes by the product alone.
+-- the accuracy figure of a product for two prices, the previous and the final one. It goes by the product alone.
 unfoldable pub accuracyOf : Code → ℕ → ℕ → ℕ
 accuracyOf code previous final = numberIn accuracyFigures code

@@ -13,7 +13,7 @@ use Rattle.products.specs.declared.table.Product.{Product}
 use Rattle.products.specs.declared.table.Terms.{Terms}
 use Rattle.products.specs.declared.table.Terms.the-variants.{Bill, Bond, CashRate}
 use Rattle.products.specs.declared.table.NamedProduct.{NamedProduct}
-use Rattle.products.specs.declared.table.NamedProduct.the-variants.{At, Missing}
+use Rattle.products.specs.declared.table.NamedProduct.the-variants.{Named, Missing}
 use Rattle.pricing.specs.declared.contract.Priced.{Priced}
 use Rattle.pricing.specs.declared.contract.Priced.the-variants as priced
 
@@ -33,7 +33,7 @@ check k passed a = cond passed a (refused k 0)
 
 -- check 4, then the answer of the product
 abbrev pub ofProduct : NamedProduct → (Product → Answer) → Answer
-ofProduct (At product) f = f product
+ofProduct (Named product) f = f product
 ofProduct Missing f = refused 4 0
 
 -- checks 6 and 7 of a price, then the answer a

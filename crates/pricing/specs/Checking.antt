@@ -8,7 +8,7 @@ use Rattle.products.specs.declared.table.Code.{Code}
 use Rattle.products.specs.declared.table.Product.{Product}
 use Rattle.products.specs.declared.table.Terms.{Terms}
 use Rattle.products.specs.declared.table.NamedProduct.{NamedProduct}
-use Rattle.products.specs.declared.table.NamedProduct.the-variants.{At, Missing}
+use Rattle.products.specs.declared.table.NamedProduct.the-variants.{Named, Missing}
 use Rattle.pricing.specs.declared.contract.PriceChecked.{PriceChecked}
 use Rattle.pricing.specs.declared.contract.PriceChecked.the-variants.{Passed, Failed}
 use Rattle.pricing.specs.declared.contract.Checked.{Checked}
@@ -25,7 +25,7 @@ checkedProduct product (Failed k) = checked.Refused k
 
 -- check 4 before them
 abbrev pub checkIn : NamedProduct → ℕ → Checked
-checkIn (At product) p = checkedProduct product (priceChecked (product .tick) p)
+checkIn (Named product) p = checkedProduct product (priceChecked (product .tick) p)
 checkIn Missing p = checked.Refused 4
 
 unfoldable pub checkOf : Code → ℕ → Checked

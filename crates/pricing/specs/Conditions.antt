@@ -8,7 +8,7 @@ use Rattle.products.specs.Products.{priceLimit, find, Unlisted}
 use Rattle.pricing.specs.Calls.{Answer, given, refused}
 use Rattle.products.specs.declared.table.Code.{Code}
 use Rattle.products.specs.declared.table.Product.{Product}
-use Rattle.products.specs.declared.table.NamedProduct.the-variants.{At}
+use Rattle.products.specs.declared.table.NamedProduct.the-variants.{Named}
 use Rattle.products.specs.declared.table.Terms.the-variants.{Bond}
 
 pub data ContractCheck : Type 0 where
@@ -30,13 +30,13 @@ abbrev pub HoldsAt : Code → ℕ → ContractCheck → ℕ → Type 0
 -- 4: the code is not in the product table
 HoldsAt code p NoProduct i = (i ≡ 0) × Unlisted code
 -- 4, for a bracket: it is no code of a bond
-HoldsAt code p NoBond i = (i ≡ 0) × ((product : Product) → find code ≡ At product → (face c n : ℕ) → ¬ (product .terms ≡ Bond face c n))
+HoldsAt code p NoBond i = (i ≡ 0) × ((product : Product) → find code ≡ Named product → (face c n : ℕ) → ¬ (product .terms ≡ Bond face c n))
 -- 6: the price is above 1,000,000
 HoldsAt code p AboveLimit i = (i ≡ 0) × (priceLimit < p)
 -- 7: the price is not a multiple of the product's tick
-HoldsAt code p OffTick i = (i ≡ 0) × ((product : Product) × (find code ≡ At product) × ¬ (product .tick ∣ p))
+HoldsAt code p OffTick i = (i ≡ 0) × ((product : Product) × (find code ≡ Named product) × ¬ (product .tick ∣ p))
 -- 15: p + tick is above 1,000,000
-HoldsAt code p NextAboveLimit i = (i ≡ 0) × ((product : Product) × (find code ≡ At product) × (priceLimit < p + product .tick))
+HoldsAt code p NextAboveLimit i = (i ≡ 0) × ((product : Product) × (find code ≡ Named product) × (priceLimit < p + product .tick))
 
 -- the checks of each call, in their order
 abbrev pub valueChecks : List ContractCheck

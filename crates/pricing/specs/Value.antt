@@ -7,7 +7,7 @@ use Rattle.products.specs.Products.{find}
 use Rattle.pricing.specs.Ladder.{base, bracket, wholeBracket}
 use Rattle.products.specs.declared.table.Code.{Code}
 use Rattle.products.specs.declared.table.NamedProduct.{NamedProduct}
-use Rattle.products.specs.declared.table.NamedProduct.the-variants.{At, Missing}
+use Rattle.products.specs.declared.table.NamedProduct.the-variants.{Named, Missing}
 use Rattle.products.specs.declared.table.Terms.{Terms}
 use Rattle.products.specs.declared.table.Terms.the-variants.{Bill, Bond, CashRate}
 
@@ -39,7 +39,7 @@ exactBy (Bond face c n) p = record { num = wholeBracket c n (bondDivisor p) * fa
 exactBy (CashRate cents) p = record { num = cents * p; den = 100 }
 
 abbrev pub exactIn : NamedProduct → ℕ → Fraction
-exactIn (At product) p = exactBy (product .terms) p
+exactIn (Named product) p = exactBy (product .terms) p
 exactIn Missing p = wholly 0
 
 -- the exact value of the product that a code names

@@ -52,7 +52,7 @@ fn check(code: Code, p: u32) -> Checked
     ensures { λ r. ⌜ r ≡ checkOf code p ⌝ }
 {
     match lookup(code) {
-        NamedProduct::At(product) => match check_price(product.tick, p) {
+        NamedProduct::Named(product) => match check_price(product.tick, p) {
             PriceChecked::Passed => {
                 let t = product.terms;
                 Checked::Product {
@@ -96,7 +96,7 @@ pub fn value(code: Code, p: u32) -> Priced
     ensures { λ r. ⌜ said r ≡ valueOf code p ⌝ }
 {
     match lookup(code) {
-        NamedProduct::At(product) => {
+        NamedProduct::Named(product) => {
             let t = product.terms;
             value_by(t, product.tick, p)
         }
@@ -145,7 +145,7 @@ pub fn bracket(code: Code, p: u32) -> Priced
     ensures { λ r. ⌜ said r ≡ bracketOf code p ⌝ }
 {
     match lookup(code) {
-        NamedProduct::At(product) => {
+        NamedProduct::Named(product) => {
             let t = product.terms;
             bracket_by(t, product.tick, p)
         }

@@ -32,7 +32,7 @@ pub fn value_or_zero(code: Code, p: u32) -> u64
     ensures { λ r. ⌜ r ≡ orZero (valueOf code p) ⌝ }
 {
     match lookup(code) {
-        NamedProduct::At(product) => {
+        NamedProduct::Named(product) => {
             let t = product.terms;
             value_if_passed(t, product.tick, p)
         }
@@ -114,7 +114,7 @@ pub fn values_or_zero(code: Code, p: [u32; LANES]) -> [u64; LANES]
     ensures { λ r. ⌜ r ≡ valuesOrZero code p ⌝ }
 {
     match lookup(code) {
-        NamedProduct::At(product) => {
+        NamedProduct::Named(product) => {
             let t = product.terms;
             values_by(t, product.tick, p)
         }

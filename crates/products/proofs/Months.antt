@@ -11,26 +11,26 @@ use Rattle.numbers.proofs.Truth.{and-left}
 use Rattle.products.specs.Products.{hasMonth, monthsBelow, monthsOf}
 use Rattle.products.specs.declared.table.Product.{Product}
 
-module _ (q : Product) (m : ℕ) where
-  listed : (n : ℕ) → m < n → hasMonth q m ≡ true → List·Memᴰ m (monthsBelow n q)
+module _ (product : Product) (m : ℕ) where
+  listed : (n : ℕ) → m < n → hasMonth product m ≡ true → List·Memᴰ m (monthsBelow n product)
   unfolding monthsBelow
   listed zero h e = absurd (not-suc-le-zero h)
   listed (suc n) h e =
-      ⊎-elim (λ (s : m ≡ n). Memᴰ·append-right (monthsBelow n q) (rw (← s, e) (List·Memᴰ·head refl)))
-      (λ (l : m < n). Memᴰ·append-left (cond (hasMonth q n) (n ∷ []) []) (listed n l e)) (eq-or-lt-of-le (le-of-suc-le-suc h))
+      ⊎-elim (λ (s : m ≡ n). Memᴰ·append-right (monthsBelow n product) (rw (← s, e) (List·Memᴰ·head refl)))
+      (λ (l : m < n). Memᴰ·append-left (cond (hasMonth product n) (n ∷ []) []) (listed n l e)) (eq-or-lt-of-le (le-of-suc-le-suc h))
 
-  here : (n : ℕ) (b : Bool) → hasMonth q n ≡ b → List·Memᴰ m (cond b (n ∷ []) []) → hasMonth q m ≡ true
+  here : (n : ℕ) (b : Bool) → hasMonth product n ≡ b → List·Memᴰ m (cond b (n ∷ []) []) → hasMonth product m ≡ true
   here n true e i = rw (List·Memᴰ·eq-of-singleton i) e
   here n false e i = absurd (List·Memᴰ·not-nil i)
 
-  passes : (n : ℕ) → List·Memᴰ m (monthsBelow n q) → hasMonth q m ≡ true
+  passes : (n : ℕ) → List·Memᴰ m (monthsBelow n product) → hasMonth product m ≡ true
   unfolding monthsBelow
   passes zero i = absurd (List·Memᴰ·not-nil i)
-  passes (suc n) i = ⊎-elim (passes n) (here n (hasMonth q n) refl) (List·Memᴰ·append-cases (monthsBelow n q) i)
+  passes (suc n) i = ⊎-elim (passes n) (here n (hasMonth product n) refl) (List·Memᴰ·append-cases (monthsBelow n product) i)
 
-  below : hasMonth q m ≡ true → m < 16
+  below : hasMonth product m ≡ true → m < 16
   unfolding hasMonth
-  below e = ltb-true m 16 (and-left (ltb m 16) (eqb (q .months / 2 ^ m % 2) 1) e)
+  below e = ltb-true m 16 (and-left (ltb m 16) (eqb (product .months / 2 ^ m % 2) 1) e)
 
-  pub month-exactly : (hasMonth q m ≡ true) ↔ List·Memᴰ m (monthsOf q)
+  pub month-exactly : (hasMonth product m ≡ true) ↔ List·Memᴰ m (monthsOf product)
   month-exactly = ((λ e. listed 16 (below e) e), passes 16)

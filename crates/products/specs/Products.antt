@@ -11,7 +11,7 @@ use Rattle.products.specs.declared.table.Product.{Product}
 use Rattle.products.specs.declared.table.Terms.{Terms}
 use Rattle.products.specs.declared.table.Terms.the-variants.{Bill, Bond, CashRate}
 use Rattle.products.specs.declared.table.NamedProduct.{NamedProduct}
-use Rattle.products.specs.declared.table.NamedProduct.the-variants.{At, Missing}
+use Rattle.products.specs.declared.table.NamedProduct.the-variants.{Named, Missing}
 
 -- the highest price, in units of 0.0001
 unfoldable pub priceLimit : ℕ
@@ -70,7 +70,7 @@ sameCode a b = eqb (a .0) (b .0) && eqb (a .1) (b .1)
 -- the first line of a table that a code names
 unfoldable pub findIn : List Product → Code → NamedProduct
 findIn [] a = Missing
-findIn (product ∷ qs) a = cond (sameCode a (product .code)) (At product) (findIn qs a)
+findIn (product ∷ rest) a = cond (sameCode a (product .code)) (Named product) (findIn rest a)
 
 unfoldable pub find : Code → NamedProduct
 find a = findIn products a
@@ -81,7 +81,7 @@ Unlisted code = (product : Product) → List·Memᴰ product products → ¬ (pr
 
 -- the product's currency, Australian where there is no product
 abbrev pub currencyIn : NamedProduct → Currency
-currencyIn (At product) = product .currency
+currencyIn (Named product) = product .currency
 currencyIn Missing = Aud
 
 unfoldable pub currencyOf : Code → Currency
@@ -94,7 +94,7 @@ bondTerms (Bond face c n) = true
 bondTerms (CashRate cents) = false
 
 abbrev pub bondIn : NamedProduct → Bool
-bondIn (At product) = bondTerms (product .terms)
+bondIn (Named product) = bondTerms (product .terms)
 bondIn Missing = false
 
 unfoldable pub isBond : Code → Bool
@@ -104,7 +104,7 @@ isBond a = bondIn (find a)
 unfoldable pub hasMonth : Product → ℕ → Bool
 hasMonth product m = ltb m 16 && eqb (product .months / 2 ^ m % 2) 1
 
--- the product's months below n, and all of them: the months of a line have less than sixteen bits
+-- the product's months below n, and all of them: the months of a line have fewer than sixteen bits
 unfoldable pub monthsBelow : ℕ → Product → List ℕ
 monthsBelow zero product = []
 monthsBelow (suc n) product = monthsBelow n product ++ cond (hasMonth product n) (n ∷ []) []

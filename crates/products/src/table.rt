@@ -105,7 +105,7 @@ pub const PRODUCTS: [Product; 6] = [
 ];
 
 pub enum NamedProduct {
-    At(Product),
+    Named(Product),
     Missing,
 }
 
@@ -132,7 +132,7 @@ pub fn lookup(code: Code) -> NamedProduct
     while i < 6 {
         let product = line(i);
         if same_code(code, product.code) {
-            return NamedProduct::At(product);
+            return NamedProduct::Named(product);
         }
         i += 1;
     }
@@ -144,7 +144,7 @@ pub fn currency_of(code: Code) -> Currency
     ensures { λ r. ⌜ r ≡ currencyOf code ⌝ }
 {
     match lookup(code) {
-        NamedProduct::At(product) => {
+        NamedProduct::Named(product) => {
             let c = product.currency;
             c
         }
@@ -172,7 +172,7 @@ pub fn is_bond(code: Code) -> bool
     ensures { λ r. ⌜ r ≡ isBond code ⌝ }
 {
     match lookup(code) {
-        NamedProduct::At(product) => {
+        NamedProduct::Named(product) => {
             let t = product.terms;
             bond_terms(t)
         }

@@ -10,13 +10,13 @@ use Rattle.pricing.specs.Calls.{valueOf}
 use Rattle.numbers.specs.Bytes.{u32At, u32Bytes, signed, recordsOf}
 use Rattle.numbers.specs.Folds.{first, some}
 use Rattle.dayfile.specs.Records.{markAt, correctionAt, positionAt}
-use Rattle.checks.specs.Table.{listed, quoted, tickOf}
+use Rattle.checks.specs.Table.{listed, codeHasMonth, tickOf}
 use Rattle.settlement.specs.ContractValue.{valueOrZero}
 use Rattle.numbers.specs.Checks.{decisionOf}
 use Rattle.checks.specs.Judging.{judgedOf}
 use Rattle.dayfile.specs.Layout.{countsOf}
 use Rattle.dayfile.specs.Making.{countsIn, entryBytes, headerOf, madeOf}
-use Rattle.settlement.specs.Prices.{latestOf, finalOf, changeOf}
+use Rattle.settlement.specs.Prices.{highestOf, finalOf, changeOf}
 use Rattle.settlement.specs.Settling.{amountOf, totalOf, planOf, answerOf}
 use Rattle.settlement.proofs.Example.{marks, corrections, positions, caseFile, twoMarks}
 use Rattle.settlement.proofs.AnsweredFiles.{noMark}
@@ -37,8 +37,8 @@ printed =
 -- with room for its amounts, and settled into a slice of one place
 pub case-prints : (sheetOf caseFile 4096 ≡ printed) × (sheetOf caseFile 1 ≡ ascii "refused 14 at 0\n")
 unfolding marks corrections positions caseFile printed nearest par priceLimit yieldAt products sameCode findIn find hasMonth billDividend billDivisor valueBy valueOf
-    u32At signed recordsOf first some markAt correctionAt positionAt listed quoted tickOf currencyOf valueOrZero
-    decisionOf judgedOf countsOf latestOf finalOf changeOf amountOf totalOf planOf answerOf
+    u32At signed recordsOf first some markAt correctionAt positionAt listed codeHasMonth tickOf currencyOf valueOrZero
+    decisionOf judgedOf countsOf highestOf finalOf changeOf amountOf totalOf planOf answerOf
     texts digitsWithin decimal signedDecimal lettersOf positionLine totalLine resentLine refusalLine answerText positionsText sheetOf
 case-prints = (refl, refl)
 
@@ -46,7 +46,7 @@ case-prints = (refl, refl)
 pub others-print : (sheetOf twoMarks 2 ≡ ascii "11 IR 3 18 24060 AUD\n" ++ ascii "12 BB 6 19 -9576 NZD\n" ++ ascii "total AUD 24060\n" ++ ascii "total NZD -9576\n" ++ ascii "resent 1\n")
     × (sheetOf noMark 2 ≡ ascii "refused 12 at 1\n")
 unfolding twoMarks u32Bytes countsIn entryBytes headerOf madeOf nearest par priceLimit yieldAt products sameCode findIn find hasMonth billDividend billDivisor valueBy valueOf
-    u32At signed recordsOf first some markAt correctionAt positionAt listed quoted tickOf currencyOf valueOrZero
-    decisionOf judgedOf countsOf latestOf finalOf changeOf amountOf totalOf planOf answerOf
+    u32At signed recordsOf first some markAt correctionAt positionAt listed codeHasMonth tickOf currencyOf valueOrZero
+    decisionOf judgedOf countsOf highestOf finalOf changeOf amountOf totalOf planOf answerOf
     texts digitsWithin decimal signedDecimal lettersOf positionLine totalLine resentLine refusalLine answerText positionsText sheetOf
 others-print = (refl, refl)

@@ -53,57 +53,57 @@ resent-small : (cs : List Correction) → resentOf cs ≤ length cs
 resent-small cs = count-small (repeating (numberPair cs)) (length cs)
 
 module _ (s : List ℕ) (b : Bytes s) (d : DayFile) (laid : LaidOut s d) (passed : decisionOf (recordChecks (listsIn s d)) ≡ Unmet) where
-  l : Lists
-  l = listsIn s d
+  ls : Lists
+  ls = listsIn s d
 
-  amount-in : (i : ℕ) → i < length (l .positions) → natAbs (amountOf (l .positions) (changeIn l) i) ≤ amountCap
-  unfolding l amountOf
+  amount-in : (i : ℕ) → i < length (ls .positions) → natAbs (amountOf (ls .positions) (changeIn ls) i) ≤ amountCap
+  unfolding ls amountOf
   amount-in i h =
-      product-small (positionAt (l .positions) i .lots) (changeIn l (positionAt (l .positions) i .mark))
-      (lots-in l passed i h) (change-bound (l .marks) _ (positionAt (l .positions) i .mark))
+      product-small (positionAt (ls .positions) i .lots) (changeIn ls (positionAt (ls .positions) i .mark))
+      (lots-in ls passed i h) (change-bound (ls .marks) _ (positionAt (ls .positions) i .mark))
 
-  line-in : (i : ℕ) → i < length (l .positions) → length (lineAt (l .marks) (l .positions) (amountOf (l .positions) (changeIn l)) i) ≤ lineSize
-  unfolding l
+  line-in : (i : ℕ) → i < length (ls .positions) → length (lineAt (ls .marks) (ls .positions) (amountOf (ls .positions) (changeIn ls)) i) ≤ lineSize
+  unfolding ls
   line-in i h =
       let p = position-read (positionBytes s d) i (part-bytes (positionsStart d) (positionSize * d .positions) s b) in
-      let m = mark-read (markBytes s d) (positionAt (l .positions) i .mark) (part-bytes headerSize (markSize * d .marks) s b) in
+      let m = mark-read (markBytes s d) (positionAt (ls .positions) i .mark) (part-bytes headerSize (markSize * d .marks) s b) in
       line-length _ _ _ (rw (p .is) (u32-small (p .bytes) 0 (p .small))) (rw (m .is) (m .small 2)) (rw (m .is) (m .small 3)) (omega (arith, amount-in i h))
 
-  total-in : (c : Currency) → natAbs (totalOf (l .marks) (l .positions) (changeIn l) c) < 10 ^ 19
-  unfolding l shareOf
+  total-in : (c : Currency) → natAbs (totalOf (ls .marks) (ls .positions) (changeIn ls) c) < 10 ^ 19
+  unfolding ls shareOf
   total-in c =
-      rw (total-is (l .marks) (l .positions) (changeIn l) c (λ i h. mark-in l passed i h))
+      rw (total-is (ls .marks) (ls .positions) (changeIn ls) c (λ i h. mark-in ls passed i h))
       (omega (
         arith,
-        sum-small (shareOf (l .marks) (l .positions) (changeIn l) c) (length (l .positions)) (λ i h. le-trans (keep-small c _ (amountOf (l .positions) (changeIn l) i)) (amount-in i h)),
+        sum-small (shareOf (ls .marks) (ls .positions) (changeIn ls) c) (length (ls .positions)) (λ i h. le-trans (keep-small c _ (amountOf (ls .positions) (changeIn ls) i)) (amount-in i h)),
         lists-within s d (laid .counts-within) .positions,
       ))
 
-  accepted-length : length (positionsText (accept l) ++ answerText (totals l)) ≤ sheetSize
-  unfolding l positionsText answerText
+  accepted-length : length (positionsText (accept ls) ++ answerText (totals ls)) ≤ sheetSize
+  unfolding ls positionsText answerText
   accepted-length =
-      let total : Currency → ℤ = totalOf (l .marks) (l .positions) (changeIn l) in
-      let k : resentOf (l .corrections) < 10 ^ 20 = omega (arith, resent-small (l .corrections), lists-within s d (laid .counts-within) .corrections) in
+      let total : Currency → ℤ = totalOf (ls .marks) (ls .positions) (changeIn ls) in
+      let k : resentOf (ls .corrections) < 10 ^ 20 = omega (arith, resent-small (ls .corrections), lists-within s d (laid .counts-within) .corrections) in
       rw length-append
       (omega (
         arith,
-        texts-length (lineAt (l .marks) (l .positions) (amountOf (l .positions) (changeIn l))) (length (l .positions)) lineSize line-in,
+        texts-length (lineAt (ls .marks) (ls .positions) (amountOf (ls .positions) (changeIn ls))) (length (ls .positions)) lineSize line-in,
         lists-within s d (laid .counts-within) .positions,
-        totals-length (total Aud) (total Nzd) (resentOf (l .corrections)) (total-in Aud) (total-in Nzd) k,
+        totals-length (total Aud) (total Nzd) (resentOf (ls .corrections)) (total-in Aud) (total-in Nzd) k,
       ))
 
 -- ---- a file that is refused
 
--- no check looks at more than the positions of a file
+-- no check looks at more records than a file may have positions
 sizes : (f : List ℕ) (places : ℕ) → ListsWithinLimits (listsOfFile f) → Sized (settlementChecks fileLimits f places) (fileLimits .positions)
 sizes f places h =
-    let l = listsOfFile f in
-    let m = markChecks (l .marks) in
-    let c = correctionChecks (l .marks) (l .corrections) in
-    let p = positionChecks (l .marks) (l .positions) in
+    let ls = listsOfFile f in
+    let m = markChecks (ls .marks) in
+    let c = correctionChecks (ls .marks) (ls .corrections) in
+    let p = positionChecks (ls .marks) (ls .positions) in
     let header = headerChecks fileLimits f in
-    sized-before (fileChecks fileLimits f) (only (roomCheck l places))
-    (sized-before header (recordChecks l) (λ x. omega arith)
+    sized-before (fileChecks fileLimits f) (only (roomCheck ls places))
+    (sized-before header (recordChecks ls) (λ x. omega arith)
     (sized-before m (c before p) (λ x. omega (arith, h .marks)) (sized-before c p (λ x. omega (arith, h .corrections)) (λ x. h .positions))))
     (λ x. omega arith)
 
@@ -121,7 +121,7 @@ module _ (s : List ℕ) (places : ℕ) where
   -- a file that opens
   module _ (b : Bytes s) (laid : LaidOut s (countsOf s)) where
     by-room : decisionOf (recordChecks (listsOfFile s)) ≡ Unmet → (t : Bool) → planOf fileLimits s places ≡ cond t (refuse 14 0) (accept (listsOfFile s)) → length (sheetOf s places) ≤ sheetSize
-    unfolding sheetOf answerOf l
+    unfolding sheetOf answerOf ls
     by-room v true p = refused-fits p (omega arith)
     by-room v false p = rw p (accepted-length s b (countsOf s) laid v)
 

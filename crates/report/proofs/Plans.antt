@@ -33,28 +33,29 @@ use Rattle.report.specs.Sheet.{positionsText}
 use Rattle.report.specs.Writers.{Paid, Named, countOf, linesIn}
 
 -- the lines that the writer puts down are those of the plan, their amounts stand in the slice, and each names a mark
-pub record Lined (l : Lists) (plan : Plan) (n : ℕ) (a : List ℤ) : Type 0 where
+pub record Lined (ls : Lists) (plan : Plan) (n : ℕ) (a : List ℤ) : Type 0 where
   pub room : n ≤ length a
-  pub named : Named (l .marks) (l .positions) n
-  pub lines : linesIn l a n ≡ positionsText plan
+  pub named : Named (ls .marks) (ls .positions) n
+  pub lines : linesIn ls a n ≡ positionsText plan
 
-module _ (l : Lists) (a : List ℤ) {n : ℕ} where
-  lined-refused : {k i : ℕ} → Paid (refuse k i) n a → Lined l (refuse k i) n a
+module _ (ls : Lists) (a : List ℤ) {n : ℕ} where
+  lined-refused : {k i : ℕ} → Paid (refuse k i) n a → Lined ls (refuse k i) n a
   unfolding positionsText texts
   lined-refused p = record { room = omega (arith, p .count); named = λ i h. absurd (omega (arith, p .count)); lines = rw (p .count) }
 
-  lined-accepted : decisionOf (recordChecks l) ≡ Unmet → length (l .positions) ≤ length a → Paid (accept l) n a → Lined l (accept l) n a
+  lined-accepted : decisionOf (recordChecks ls) ≡ Unmet → length (ls .positions) ≤ length a → Paid (accept ls) n a → Lined ls (accept ls) n a
   unfolding positionsText
   lined-accepted e h p =
       record {
         room = omega (arith, p .count);
-        named = λ i k. mark-in l e i (omega (arith, p .count));
-        lines = ap (linesIn l a) (p .count) ∙ texts-same _ _ (length (l .positions))
-            (λ i k. ap (positionLine (positionAt (l .positions) i .account) (markAt (l .marks) (positionAt (l .positions) i .mark)))
-            (ap (λ x. getD x i (pos 0)) (p .written) ∙ entry (amountOf (l .positions) (changeIn l)) (length (l .positions)) i (drop (length (l .positions)) (p .before)) (pos 0) k));
+        named = λ i k. mark-in ls e i (omega (arith, p .count));
+        lines = ap (linesIn ls a) (p .count) ∙ texts-same _ _ (length (ls .positions))
+            (λ i k. ap (positionLine (positionAt (ls .positions) i .account) (markAt (ls .marks) (positionAt (ls .positions) i .mark)))
+            (ap (λ x. getD x i (pos 0)) (p .written) ∙ entry (amountOf (ls .positions) (changeIn ls)) (length (ls .positions)) i (drop (length (ls .positions)) (p .before)) (pos 0) k));
       }
 
-  by-room : decisionOf (recordChecks l) ≡ Unmet → (t : Bool) → ltb (length a) (length (l .positions)) ≡ t → Paid (cond t (refuse 14 0) (accept l)) n a → Lined l (cond t (refuse 14 0) (accept l)) n a
+  by-room : decisionOf (recordChecks ls) ≡ Unmet → (t : Bool) → ltb (length a) (length (ls .positions)) ≡ t → Paid (cond t (refuse 14 0) (accept ls)) n a
+      → Lined ls (cond t (refuse 14 0) (accept ls)) n a
   by-room v true e p = lined-refused p
   by-room v false e p = lined-accepted v (ltb-false _ _ e) p
 

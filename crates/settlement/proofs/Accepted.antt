@@ -21,16 +21,16 @@ use Rattle.settlement.specs.Settling.{settled, accept, refuse, planOf, a
 use Rattle.settlement.specs.SettlingSteps.{ListsPass, Payable, Named}
 use Rattle.settlement.proofs.Plans.{planFrom, plan-decided}
 
-pub payable : (l : Lists) → ListsPass l → Payable (l .positions)
-payable l a =
+pub payable : (ls : Lists) → ListsPass ls → Payable (ls .positions)
+payable ls a =
     record {
       few = a .lists-within .positions;
-      mark = λ i h. omega (arith, mark-in l (a .passed) i h, a .lists-within .marks);
-      lots = λ i h. lots-in l (a .passed) i h;
+      mark = λ i h. omega (arith, mark-in ls (a .passed) i h, a .lists-within .marks);
+      lots = λ i h. lots-in ls (a .passed) i h;
     }
 
-pub named : (l : Lists) → ListsPass l → Named (l .marks) (l .positions)
-named l a = record { few = a .lists-within .marks; mark = λ i h. mark-in l (a .passed) i h }
+pub named : (ls : Lists) → ListsPass ls → Named (ls .marks) (ls .positions)
+named ls a = record { few = a .lists-within .marks; mark = λ i h. mark-in ls (a .passed) i h }
 
 pub record AcceptedFile (l : Limits) (f : List ℕ) (places : ℕ) : Type 0 where
   pub opens : Opens l f

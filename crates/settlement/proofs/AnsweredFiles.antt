@@ -16,14 +16,14 @@ use Rattle.dayfile.specs.Limits.{fileLimits}
 use Rattle.dayfile.specs.Records.{markAt, correctionAt, positionAt}
 use Rattle.dayfile.specs.Layout.{countsOf}
 use Rattle.dayfile.specs.Making.{countsIn, entryBytes, headerOf, madeOf}
-use Rattle.checks.specs.Table.{listed, quoted, tickOf}
+use Rattle.checks.specs.Table.{listed, codeHasMonth, tickOf}
 use Rattle.numbers.specs.Checks.{decisionOf, findingBy}
 use Rattle.numbers.specs.declared.Found.{Found}
 use Rattle.numbers.specs.declared.Found.the-variants.{At, Nothing}
 use Rattle.checks.specs.Judging.{judgedOf}
 use Rattle.checks.specs.Finding.{foundOf}
 use Rattle.settlement.specs.ContractValue.{valueOrZero}
-use Rattle.settlement.specs.Prices.{latestOf, finalOf, changeOf}
+use Rattle.settlement.specs.Prices.{highestOf, finalOf, changeOf}
 use Rattle.settlement.specs.Settling.{amountOf, totalOf, Answer, settled, refused, planOf, answerOf}
 use Rattle.products.specs.declared.table.Code.{Code}
 
@@ -71,7 +71,7 @@ f answers a = record { file = f; answer = a }
 
 unfoldable pub files : List Answered
 files =
-    -- counts at their limits pass 2 and fail 3; one more fails 2; so does an offset that is not the layout's fail 3
+    -- counts at their limits pass 2 and fail 3; one more fails 2; an offset that is not the layout's fails 3
     (header 256 24 512 24 4096 24 answers refused 3 0)
     ∷ (header 257 24 0 24 0 24 answers refused 2 0)
     ∷ (header 0 24 513 24 0 24 answers refused 2 0)
@@ -122,14 +122,14 @@ files =
 
 pub files-answered : map (λ x. answerOf fileLimits (x .file) 2) files ≡ map (λ x. x .answer) files
 unfolding files nearest par priceLimit yieldAt products sameCode findIn find hasMonth billDividend billDivisor valueBy valueOf
-    u32Bytes u32At signed recordsOf first some markAt correctionAt positionAt listed quoted tickOf currencyOf valueOrZero
-    decisionOf judgedOf countsOf latestOf finalOf changeOf amountOf totalOf planOf answerOf countsIn entryBytes headerOf madeOf
+    u32Bytes u32At signed recordsOf first some markAt correctionAt positionAt listed codeHasMonth tickOf currencyOf valueOrZero
+    decisionOf judgedOf countsOf highestOf finalOf changeOf amountOf totalOf planOf answerOf countsIn entryBytes headerOf madeOf
 files-answered = refl
 
 -- one place for two positions: 14, but after 16
 pub room-last : (answerOf fileLimits (fileOf m c p) 1 ≡ refused 14 0) × (answerOf fileLimits (fileOf m c (three 11 0 10)) 1 ≡ refused 16 1)
 unfolding priceLimit products sameCode findIn find hasMonth u32Bytes u32At signed recordsOf first some markAt correctionAt positionAt
-    listed quoted tickOf decisionOf judgedOf countsOf planOf answerOf countsIn entryBytes headerOf madeOf
+    listed codeHasMonth tickOf decisionOf judgedOf countsOf planOf answerOf countsIn entryBytes headerOf madeOf
 room-last = (refl, refl)
 
 -- ---- what each check finds by itself
@@ -194,5 +194,5 @@ findings =
 
 pub found-each : map (λ x. map (foundOf fileLimits (x .file)) (x .asked)) findings ≡ map (λ x. x .found) findings
 unfolding findings priceLimit products sameCode findIn find hasMonth u32Bytes u32At signed recordsOf first some
-    markAt correctionAt positionAt listed quoted tickOf findingBy foundOf countsOf countsIn entryBytes headerOf madeOf
+    markAt correctionAt positionAt listed codeHasMonth tickOf findingBy foundOf countsOf countsIn entryBytes headerOf madeOf
 found-each = refl

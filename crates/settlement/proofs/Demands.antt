@@ -23,7 +23,7 @@ use Rattle.dayfile.specs.Layout.{countsOf, listsOfFile}
 use Rattle.products.specs.Products.{currencyOf}
 use Rattle.numbers.specs.Checks.{numberOf}
 use Rattle.settlement.specs.Conditions.{settlementChecks, TurnedAway, NotTurnedAway}
-use Rattle.settlement.specs.Prices.{Latest, latestOf, finalOf, FinalPrice, AllIn}
+use Rattle.settlement.specs.Prices.{Highest, highestOf, finalOf, FinalPrice, DecidingCorrection, AllIn}
 use Rattle.settlement.specs.OneMark.{priced, markAnswerOf}
 use Rattle.checks.specs.Corrections.{resentOf}
 use Rattle.settlement.specs.Settling.{amountOf, changeIn, keepOf, positionIn, markIn, previousIn, finalIn, Answer, settled, refused, totals, answerOf, amountsAfter}
@@ -92,7 +92,7 @@ header-counts l f a e =
     let n = slices.counted l f a e in
     (sym n ∙ positions-sized f (countsOf f) whole, n, marks-sized f (countsOf f) whole, corrections-sized f (countsOf f) whole)
 
--- ---- the third demand
+-- ---- each amount, and the third demand
 
 -- For position i of a file that is accepted: `amount` is what stands in place i of the slice.
 module _ (l : Limits) (f : List ℕ) (a : List ℤ) {n k : ℕ} {aud nzd : ℤ} (e : answerOf l f (length a) ≡ settled n aud nzd k) (i : ℕ) (h : i < n) where
@@ -106,8 +106,8 @@ module _ (l : Limits) (f : List ℕ) (a : List ℤ) {n k : ℕ} {aud nzd : ℤ} 
       let (v, w, p, q, r) = amount-valued (listsOfFile f) (slices.accepted l f a e .passed) i (rw (slices.counted l f a e) h) in
       (v, w, p, q, slices.amount-stands l f a e i h ∙ r)
 
-  -- 1,000 times the amount lies within the product's figure times the lots without their sign of 1,000 times lots times the difference of the
-  -- exact values.
+  -- 1,000 times the amount lies within the product's accuracy figure times the lots without their sign of 1,000 times lots times the difference
+  -- of the exact values.
   pub demand-3-accuracy :
       Within (pos 1000 *ℤ amount) (pos 1000 times positionIn f i .lots times (exactOf (markIn f i .code) (finalIn f i) minus exactOf (markIn f i .code) (previousIn f i)))
       (accuracyOf (markIn f i .code) (previousIn f i) (finalIn f i) * natAbs (positionIn f i .lots))
@@ -129,7 +129,7 @@ module _ (l : Limits) (f : List ℕ) (a : List ℤ) {n k : ℕ} {aud nzd : ℤ} 
       r ∙ rw (same, +ℤ-invr (pos w), *ℤ-zero (positionIn f i .lots))
 
   -- What is said of the position's mark has the position's two settlement prices, and the amount is lots times the change that it has.
-  pub amount-by-mark : {previous final : ℕ} {d : Latest} {z : ℤ} → markAnswerOf l f (positionIn f i .mark) ≡ priced previous final d z
+  pub amount-by-mark : {previous final : ℕ} {d : Highest} {z : ℤ} → markAnswerOf l f (positionIn f i .mark) ≡ priced previous final d z
       → (previous ≡ previousIn f i) × (final ≡ finalIn f i) × (amount ≡ positionIn f i .lots *ℤ z)
   unfolding amountOf
   amount-by-mark {z = z} said =
@@ -176,12 +176,12 @@ pub final-price-is : (ms : List Mark) (cs : List Correction) (m : ℕ) → Final
 final-price-is ms cs m = prices.final-price-is ms cs m
 
 -- The correction that decides: the highest-numbered of those that name the mark, and none where none names it.
-pub deciding-is : (cs : List Correction) (m : ℕ) → prices.Latest-is cs m (length cs) (latestOf cs m (length cs))
-deciding-is cs m = prices.latest-is cs m (length cs)
+pub deciding-is : (cs : List Correction) (m : ℕ) → DecidingCorrection cs m (length cs) (highestOf cs m (length cs))
+deciding-is cs m = prices.deciding-is cs m (length cs)
 
 -- In an accepted file:
 module _ (l : Limits) (f : List ℕ) (places : ℕ) {n k : ℕ} {aud nzd : ℤ} (e : answerOf l f places ≡ settled n aud nzd k) where
-  -- It is the only such price.
+  -- The final price is the only one that document 01's words allow.
   pub one-final-price : (m p : ℕ) → FinalPrice (listsOfFile f .marks) (listsOfFile f .corrections) m p → p ≡ finalOf (listsOfFile f .marks) (listsOfFile f .corrections) m
   one-final-price m p d =
       let ls = listsOfFile f in
@@ -199,7 +199,7 @@ module _ (l : Limits) (f : List ℕ) (places : ℕ) {n k : ℕ} {aud nzd : ℤ} 
       → finalOf (listsOfFile f .marks) (listsOfFile f .corrections) m ≡ markAt (listsOfFile f .marks) m .today
   uncorrected-stands m none = sym (one-final-price _ _ (uncorrected none refl))
 
-  -- It depends only on which corrections occur, not on their order or number.
+  -- The final price depends only on which corrections occur, not on their order or on how often each occurs.
   pub same-corrections-same-prices : (ds : List Correction) → AllIn (listsOfFile f .corrections) ds → AllIn ds (listsOfFile f .corrections)
       → finalOf (listsOfFile f .marks) ds ≡ finalOf (listsOfFile f .marks) (listsOfFile f .corrections)
   same-corrections-same-prices ds to back =

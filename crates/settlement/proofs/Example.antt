@@ -13,12 +13,12 @@ use Rattle.numbers.specs.Bytes.{u32At, signed, recordsOf, u32Bytes}
 use Rattle.numbers.specs.Folds.{first, some}
 use Rattle.dayfile.specs.Limits.{fileLimits}
 use Rattle.dayfile.specs.Records.{markAt, correctionAt, positionAt}
-use Rattle.checks.specs.Table.{listed, quoted, tickOf}
+use Rattle.checks.specs.Table.{listed, codeHasMonth, tickOf}
 use Rattle.settlement.specs.ContractValue.{valueOrZero}
 use Rattle.numbers.specs.Checks.{decisionOf}
 use Rattle.checks.specs.Judging.{judgedOf}
 use Rattle.dayfile.specs.Layout.{countsOf}
-use Rattle.settlement.specs.Prices.{latestOf, finalOf, changeOf}
+use Rattle.settlement.specs.Prices.{highestOf, finalOf, changeOf}
 use Rattle.settlement.specs.Settling.{amountOf, totalOf, settled, refused, planOf, answerOf, amountsAfter}
 use Rattle.dayfile.specs.Making.{countsIn, entryBytes, headerOf, madeOf}
 
@@ -50,8 +50,8 @@ pub case-settled : (answerOf fileLimits caseFile 2 ≡ settled 2 (pos 14436) (po
     × (amountsAfter fileLimits caseFile (pos 1 ∷ pos 2 ∷ pos 3 ∷ []) ≡ pos 24060 ∷ negsuc 9623 ∷ pos 3 ∷ [])
     × (answerOf fileLimits caseFile 1 ≡ refused 14 0)
 unfolding marks corrections positions caseFile nearest par priceLimit yieldAt products sameCode findIn find hasMonth billDividend billDivisor valueBy valueOf
-    u32At signed recordsOf first some markAt correctionAt positionAt listed quoted tickOf currencyOf valueOrZero
-    decisionOf judgedOf countsOf latestOf finalOf changeOf amountOf totalOf planOf answerOf amountsAfter
+    u32At signed recordsOf first some markAt correctionAt positionAt listed codeHasMonth tickOf currencyOf valueOrZero
+    decisionOf judgedOf countsOf highestOf finalOf changeOf amountOf totalOf planOf answerOf amountsAfter
 case-settled = (refl, refl, refl)
 
 -- Two marks, IR as above and BB 6 19 from 940,000 to 940,100, which no correction names; between two copies of the correction one with a lower
@@ -68,8 +68,8 @@ twoMarks =
 pub two-marks-settled : (answerOf fileLimits twoMarks 2 ≡ settled 2 (pos 24060) (negsuc 9575) 1)
     × (amountsAfter fileLimits twoMarks (pos 1 ∷ pos 2 ∷ []) ≡ pos 24060 ∷ negsuc 9575 ∷ [])
 unfolding twoMarks nearest par priceLimit yieldAt products sameCode findIn find hasMonth billDividend billDivisor valueBy valueOf
-    u32At signed recordsOf first some markAt correctionAt positionAt listed quoted tickOf currencyOf valueOrZero
-    decisionOf judgedOf countsOf latestOf finalOf changeOf amountOf totalOf planOf answerOf amountsAfter
+    u32At signed recordsOf first some markAt correctionAt positionAt listed codeHasMonth tickOf currencyOf valueOrZero
+    decisionOf judgedOf countsOf highestOf finalOf changeOf amountOf totalOf planOf answerOf amountsAfter
 two-marks-settled = (refl, refl)
 
 -- a count of 0 and an offset of 24

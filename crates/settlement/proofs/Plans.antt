@@ -33,11 +33,11 @@ pub settled-by : {n n′ k k′ : ℕ} {x x′ y y′ : ℤ} → n ≡ n′ → 
 settled-by o p q r = cc
 
 -- check 14
-module _ (l : Lists) (places : ℕ) where
-  pub plan-short : places < length (l .positions) → roomPlan l places ≡ refuse 14 0
+module _ (ls : Lists) (places : ℕ) where
+  pub plan-short : places < length (ls .positions) → roomPlan ls places ≡ refuse 14 0
   plan-short h = rw (lt-ltb _ _ h)
 
-  pub plan-accepted : length (l .positions) ≤ places → roomPlan l places ≡ accept l
+  pub plan-accepted : length (ls .positions) ≤ places → roomPlan ls places ≡ accept ls
   plan-accepted h = rw (le-ltb _ _ h)
 
 -- a refusal writes nothing
@@ -47,10 +47,10 @@ refuses e = rw e (record { answer = refl; written = refl })
 pub settles-as : {plan other : Plan} {r : Settlement} {a b : List ℤ} → plan ≡ other → Settles other r a b → Settles plan r a b
 settles-as e s = rw e s
 
-pub settles-of : (places : ℕ) {l m : Lists} {r : Settlement} {a b : List ℤ} → l ≡ m → Settles (roomPlan l places) r a b → Settles (roomPlan m places) r a b
+pub settles-of : (places : ℕ) {ls ls′ : Lists} {r : Settlement} {a b : List ℤ} → ls ≡ ls′ → Settles (roomPlan ls places) r a b → Settles (roomPlan ls′ places) r a b
 settles-of places e s = rw e at s
 
-pub lists-pass-of : {l m : Lists} {r : ℕ} → l ≡ m → ListsPassWith m r → ListsPassWith l r
+pub lists-pass-of : {ls ls′ : Lists} {r : ℕ} → ls ≡ ls′ → ListsPassWith ls′ r → ListsPassWith ls r
 lists-pass-of e p = rw e p
 
 -- ---- from what a file is judged to be

@@ -5,7 +5,7 @@ use native.Mathlib.Omega.{arith}
 use Rattle.pricing.specs.Calls.{Answer, given, refused, valueOf}
 use Rattle.products.specs.Products.{find, priceLimit}
 use Rattle.products.specs.declared.table.NamedProduct.{NamedProduct}
-use Rattle.products.specs.declared.table.NamedProduct.the-variants.{At, Missing}
+use Rattle.products.specs.declared.table.NamedProduct.the-variants.{Named, Missing}
 use Rattle.products.specs.declared.table.Code.{Code}
 use Rattle.pricing.proofs.Promises as pricing
 use mathlib.Core.Bool.{true}
@@ -34,7 +34,7 @@ unfolding listed tickOf
 valued a p h low on = by-found (find a) refl h on
   where
     by-found : (o : NamedProduct) → find a ≡ o → listedIn o ≡ true → p % tickIn o ≡ 0 → (n : ℕ) × (valueOf a p ≡ given n)
-    by-found (At q) e h on = (_, pricing.value-given a e low on)
+    by-found (Named product) e h on = (_, pricing.value-given a e low on)
     by-found Missing e h on = not-both h refl
 
 pub value-or-zero-is : (a : Code) (p : ℕ) {n : ℕ} → valueOf a p ≡ given n → valueOrZero a p ≡ n

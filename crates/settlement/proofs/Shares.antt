@@ -61,12 +61,12 @@ currency-back Nzd = refl
 pub pays : (ms : List Mark) (ps : List Position) (a : List ℤ) {flags : List Bool} → Named ms ps → Filled false (nzdAt ms) (length ms) flags
     → {r : Sums} {before after : List ℤ} → PaysFlagged ps a flags r before after → Pays ms ps a r before after
 unfolding flaggedShare shareOf
-pays ms ps a {flags} named held p = record { written = p .written; aud = p .aud ∙ sums Aud; nzd = p .nzd ∙ sums Nzd }
+pays ms ps a {flags} named filled p = record { written = p .written; aud = p .aud ∙ sums Aud; nzd = p .nzd ∙ sums Nzd }
   where
     share : (wanted : Currency) (i : ℕ) → i < length ps → flaggedShare ps a flags wanted i ≡ shareOf ms ps (entryOf a) wanted i
     share wanted i h =
         ap (λ (z : Currency). keepOf wanted z (amountOf ps (entryOf a) i))
-        (ap currencyBy (held .entry (positionAt ps i .mark) (named .mark i h)) ∙ currency-back (currencyOf (markAt ms (positionAt ps i .mark) .code)))
+        (ap currencyBy (filled .entry (positionAt ps i .mark) (named .mark i h)) ∙ currency-back (currencyOf (markAt ms (positionAt ps i .mark) .code)))
 
     sums : (wanted : Currency) → sum (flaggedShare ps a flags wanted) (length ps) ≡ sumOfAmounts ms ps (entryOf a) wanted
     sums wanted = sum-below (flaggedShare ps a flags wanted) (shareOf ms ps (entryOf a) wanted) (length ps) (share wanted)

@@ -41,22 +41,22 @@ module _ (ms : List Mark) (ps : List Position) (change : ℕ → ℤ) (wanted : 
 
 -- ---- from the array to the definitions
 
-module _ (l : Lists) (acc : ListsPass l) where
+module _ (ls : Lists) (acc : ListsPass ls) where
   changes : List ℤ
-  changes = changesOf (l .marks) (finalOf (l .marks) (l .corrections))
+  changes = changesOf (ls .marks) (finalOf (ls .marks) (ls .corrections))
 
-  amount-same : (i : ℕ) → i < length (l .positions) → amountOf (l .positions) (entryOf changes) i ≡ amountOf (l .positions) (changeIn l) i
+  amount-same : (i : ℕ) → i < length (ls .positions) → amountOf (ls .positions) (entryOf changes) i ≡ amountOf (ls .positions) (changeIn ls) i
   unfolding amountOf changes
-  amount-same i h = ap (λ x. positionAt (l .positions) i .lots *ℤ x) (change-at (l .marks) _ (positionAt (l .positions) i .mark) (mark-in l (acc .passed) i h))
+  amount-same i h = ap (λ x. positionAt (ls .positions) i .lots *ℤ x) (change-at (ls .marks) _ (positionAt (ls .positions) i .mark) (mark-in ls (acc .passed) i h))
 
-  pub paid-is : (a : List ℤ) → front (amountOf (l .positions) (entryOf (changesOf (l .marks) (finalOf (l .marks) (l .corrections))))) a (length (l .positions)) ≡ paid l a
+  pub paid-is : (a : List ℤ) → front (amountOf (ls .positions) (entryOf (changesOf (ls .marks) (finalOf (ls .marks) (ls .corrections))))) a (length (ls .positions)) ≡ paid ls a
   unfolding changes
-  paid-is a = ap (λ t. t ++ drop (length (l .positions)) a) (table-same _ _ (length (l .positions)) amount-same)
+  paid-is a = ap (λ t. t ++ drop (length (ls .positions)) a) (table-same _ _ (length (ls .positions)) amount-same)
 
-  pub sum-is : (wanted : Currency) → sumOfAmounts (l .marks) (l .positions) (entryOf (changesOf (l .marks) (finalOf (l .marks) (l .corrections)))) wanted
-      ≡ totalOf (l .marks) (l .positions) (changeIn l) wanted
+  pub sum-is : (wanted : Currency) → sumOfAmounts (ls .marks) (ls .positions) (entryOf (changesOf (ls .marks) (finalOf (ls .marks) (ls .corrections)))) wanted
+      ≡ totalOf (ls .marks) (ls .positions) (changeIn ls) wanted
   unfolding changes shareOf
   sum-is wanted =
-      sum-below _ (shareOf (l .marks) (l .positions) (changeIn l) wanted) (length (l .positions))
-      (λ i h. ap (keepOf wanted (currencyOf (markAt (l .marks) (positionAt (l .positions) i .mark) .code))) (amount-same i h))
-      ∙ sym (total-is (l .marks) (l .positions) (changeIn l) wanted (λ i h. mark-in l (acc .passed) i h))
+      sum-below _ (shareOf (ls .marks) (ls .positions) (changeIn ls) wanted) (length (ls .positions))
+      (λ i h. ap (keepOf wanted (currencyOf (markAt (ls .marks) (positionAt (ls .positions) i .mark) .code))) (amount-same i h))
+      ∙ sym (total-is (ls .marks) (ls .positions) (changeIn ls) wanted (λ i h. mark-in ls (acc .passed) i h))

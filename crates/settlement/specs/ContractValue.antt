@@ -3,6 +3,6 @@ use Prim.Native.Nat.{ℕ}
 use Rattle.pricing.specs.Calls.{orZero, valueOf}
 use Rattle.products.specs.declared.table.Code.{Code}
 
--- the value of one contract
+-- the value of one contract in cents, 0 where the call is refused
 unfoldable pub valueOrZero : Code → ℕ → ℕ
 valueOrZero a p = orZero (valueOf a p)

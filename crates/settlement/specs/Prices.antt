@@ -13,31 +13,31 @@ use Rattle.dayfile.specs.declared.records.Mark.{Mark}
 use Rattle.dayfile.specs.declared.records.Correction.{Correction}
 
 -- a mark's highest-numbered correction so far, its number and its price
-pub data Latest : Type 0 where
-  Never : Latest
-  Price : ℕ → ℕ → Latest
+pub data Highest : Type 0 where
+  NoneYet : Highest
+  Numbered : ℕ → ℕ → Highest
 
 -- of two corrections the one with the higher number, the later one where they are equal
-abbrev pub newerOf : Latest → Correction → Latest
-newerOf Never c = Price (c .number) (c .price)
-newerOf (Price n p) c = cond (leb n (c .number)) (Price (c .number) (c .price)) (Price n p)
+abbrev pub higherOf : Highest → Correction → Highest
+higherOf NoneYet c = Numbered (c .number) (c .price)
+higherOf (Numbered n p) c = cond (leb n (c .number)) (Numbered (c .number) (c .price)) (Numbered n p)
 
 -- after a correction, which may be of another mark
-abbrev pub afterOf : ℕ → Latest → Correction → Latest
-afterOf m latest c = cond (eqb (c .mark) m) (newerOf latest c) latest
+abbrev pub afterOf : ℕ → Highest → Correction → Highest
+afterOf m d c = cond (eqb (c .mark) m) (higherOf d c) d
 
--- the highest-numbered one of the first n corrections that names the mark m
-unfoldable pub latestOf : List Correction → ℕ → ℕ → Latest
-latestOf cs m zero = Never
-latestOf cs m (suc n) = afterOf m (latestOf cs m n) (correctionAt cs n)
+-- of the first n corrections, the highest-numbered that names the mark m
+unfoldable pub highestOf : List Correction → ℕ → ℕ → Highest
+highestOf cs m zero = NoneYet
+highestOf cs m (suc n) = afterOf m (highestOf cs m n) (correctionAt cs n)
 
-abbrev pub orToday : Latest → ℕ → ℕ
-orToday Never p = p
-orToday (Price n price) p = price
+abbrev pub orToday : Highest → ℕ → ℕ
+orToday NoneYet p = p
+orToday (Numbered n price) p = price
 
 -- the final price of the mark m
 unfoldable pub finalOf : List Mark → List Correction → ℕ → ℕ
-finalOf ms cs m = orToday (latestOf cs m (length cs)) (markAt ms m .today)
+finalOf ms cs m = orToday (highestOf cs m (length cs)) (markAt ms m .today)
 
 -- the same in document 01's words: the price of a correction that names the mark and bears the highest number of those that do,
 -- and today's price where none names it
@@ -46,6 +46,14 @@ pub data FinalPrice (ms : List Mark) (cs : List Correction) (m p : ℕ) : Type 0
       → ((j : ℕ) → j < length cs → correctionAt cs j .mark ≡ m → correctionAt cs j .number ≤ correctionAt cs k .number)
       → FinalPrice ms cs m p
   uncorrected : ((k : ℕ) → k < length cs → correctionAt cs k .mark ≢ m) → markAt ms m .today ≡ p → FinalPrice ms cs m p
+
+-- the correction that decides, in the same words: d is none where none of the first n corrections names the mark m, else the
+-- highest-numbered that does
+pub data DecidingCorrection (cs : List Correction) (m n : ℕ) (d : Highest) : Type 0 where
+  none : d ≡ NoneYet → ((k : ℕ) → k < n → correctionAt cs k .mark ≢ m) → DecidingCorrection cs m n d
+  highest : (k : ℕ) → k < n → correctionAt cs k .mark ≡ m → d ≡ Numbered (correctionAt cs k .number) (correctionAt cs k .price)
+      → ((j : ℕ) → j < n → correctionAt cs j .mark ≡ m → correctionAt cs j .number ≤ correctionAt cs k .number)
+      → DecidingCorrection cs m n d
 
 -- each correction of cs stands in ds
 abbrev pub AllIn : List Correction → List Correction → Type 0

@@ -11,8 +11,8 @@ ghost use mathlib.Core.Path.{_≡_};
 ghost use lib.ListN.{length};
 ghost use Rattle.dayfile.specs.Limits.{fileLimits};
 ghost use Rattle.dayfile.specs.Records.{marksIn, correctionsIn};
-ghost use Rattle.settlement.specs.Prices.{afterOf, latestOf, orToday};
-ghost use Rattle.settlement.specs.OneMark.{said, latestIn, markAnswerIn, markAnswerOf};
+ghost use Rattle.settlement.specs.Prices.{afterOf, highestOf, orToday};
+ghost use Rattle.settlement.specs.OneMark.{said, highestIn, markAnswerIn, markAnswerOf};
 
 // A mark's previous and final price, whether a correction decides it and its number, and the change in value of one contract, in cents; or
 // the number of a check and an index.
@@ -39,7 +39,7 @@ pub struct Deciding {
 
 // After one correction more, which may be of another mark.
 fn after(d: Deciding, m: usize, c: Correction) -> Deciding
-    ensures { λ r. ⌜ latestIn r ≡ afterOf m (latestIn d) c ⌝ }
+    ensures { λ r. ⌜ highestIn r ≡ afterOf m (highestIn d) c ⌝ }
 {
     if c.mark != m {
         return d;
@@ -56,7 +56,7 @@ fn after(d: Deciding, m: usize, c: Correction) -> Deciding
 
 // The highest-numbered correction of a mark.
 fn highest(corrections: &[u8], m: usize) -> Deciding
-    ensures { λ r. ⌜ latestIn r ≡ latestOf (correctionsIn (now (corrections .entry)))
+    ensures { λ r. ⌜ highestIn r ≡ highestOf (correctionsIn (now (corrections .entry)))
         m (length (correctionsIn (now (corrections .entry)))) ⌝ }
 {
     let n = correction_count(corrections);
@@ -75,7 +75,7 @@ fn highest(corrections: &[u8], m: usize) -> Deciding
 
 // The price that a correction decides, or today's.
 fn last_price(d: Deciding, today: u32) -> u32
-    ensures { λ r. ⌜ r ≡ orToday (latestIn d) today ⌝ }
+    ensures { λ r. ⌜ r ≡ orToday (highestIn d) today ⌝ }
 {
     if d.corrected { d.price } else { today }
 }

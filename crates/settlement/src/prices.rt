@@ -60,9 +60,9 @@ pub(crate) fn finals(
         let c = correction_at(corrections, k);
         let m = c.mark;
         if m < n {
-            let newer = replaces(c, number[m]);
-            price[m] = pick(newer, c.price, price[m]);
-            number[m] = pick(newer, c.number, number[m]);
+            let replacing = replaces(c, number[m]);
+            price[m] = pick(replacing, c.price, price[m]);
+            number[m] = pick(replacing, c.number, number[m]);
         }
         k += 1;
     }

@@ -3,7 +3,7 @@
 use std::error::Error;
 use std::fmt;
 
-/// A call that is turned away: the number of the check, and the index of the record within its section.
+/// A call that is refused: the number of the check, and the index of the record within its section.
 ///
 /// ```
 /// let refusal = citronreef::value(*b"IR", 950_050).unwrap_err();
@@ -18,7 +18,7 @@ pub struct Refusal {
     pub index: usize,
 }
 
-/// What each check turns away, by its number from 1.
+/// What each check refuses, by its number from 1.
 const WORDS: [&str; 16] = [
     "the file is shorter than 24 bytes",
     "a count is above its limit",

@@ -1,7 +1,7 @@
 //! Safe functions over the proved library: the value, tick value and bracket of one contract, the settlement of a day file,
 //! what is said of its marks, where a check's condition holds in it, and its sheet. The answers are those of document 01.
 //!
-//! Prices are whole numbers of units of 0.0001, so that 95.01 is 950,100; amounts are whole cents. A call that is turned away
+//! Prices are whole numbers of units of 0.0001, so that 95.01 is 950,100; amounts are whole cents. A call that is refused
 //! answers a [`Refusal`]. The functions keep nothing and allocate nothing, and may be called from many threads at once.
 
 #![deny(missing_docs)]
@@ -50,8 +50,8 @@ pub fn bracket(code: [u8; 2], price: u32) -> Result<u64, Refusal> {
     unsafe { sys::citronreef_bracket(code[0], code[1], price) }.answer()
 }
 
-/// Settles a day file. The amounts of an accepted file stand in the first places of `amounts`, in cents; the places after
-/// them, and all places after a refusal, are left as they were.
+/// Settles a day file. The amounts of an accepted file stand in the first places of `amounts`, in cents; the places that
+/// follow, and after a refusal all places, are left as they were.
 ///
 /// ```
 /// use citronreef::records::{Day, Mark, Position};

@@ -3,7 +3,7 @@
 use std::fmt;
 use std::io::{self, Write};
 
-/// What was asked is done, or was turned away.
+/// What was asked is done, or is refused.
 #[derive(Clone, Copy, Debug, PartialEq, Eq)]
 pub enum Ending {
     Accepted,

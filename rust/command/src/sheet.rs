@@ -12,7 +12,7 @@ use std::path::Path;
 pub const INPUT_LIMIT: usize = 65_536;
 const _: () = assert!(HEADER_SIZE + RECORD_SIZE * (MAX_MARKS + MAX_CORRECTIONS + MAX_POSITIONS) < INPUT_LIMIT);
 
-/// How the sheet of a file starts that is turned away. The sheet of any other file starts with a digit or with `total`.
+/// How the sheet of a file starts that is refused. The sheet of any other file starts with a digit or with `total`.
 const REFUSED: &[u8] = b"refused ";
 
 /// Writes what the program `sheet` prints.

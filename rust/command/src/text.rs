@@ -29,22 +29,22 @@ pub struct Made {
 /// What is wrong with a line of a text. The words start with the field, as in `field 4: ..`, where one field is wrong; the line's
 /// first word is field 1.
 #[derive(Clone, Debug, PartialEq, Eq)]
-pub struct Wrong {
+pub struct Mistake {
     pub line: usize,
     pub says: String,
 }
 
-impl Wrong {
-    fn at(line: usize, field: usize, says: String) -> Wrong {
-        Wrong { line, says: format!("field {field}: {says}") }
+impl Mistake {
+    fn at(line: usize, field: usize, says: String) -> Mistake {
+        Mistake { line, says: format!("field {field}: {says}") }
     }
 }
 
-impl fmt::Display for Wrong {
+impl fmt::Display for Mistake {
     fn fmt(&self, out: &mut fmt::Formatter) -> fmt::Result {
         let mark = if self.says.starts_with("field ") { ',' } else { ':' };
         write!(out, "line {}{mark} {}", self.line, self.says)
     }
 }
 
-impl Error for Wrong {}
+impl Error for Mistake {}

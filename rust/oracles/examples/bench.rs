@@ -202,7 +202,7 @@ fn print_settle() {
     println!("growth from N = 2048 to 4096: proved {proved:.2}, plain {plain:.2}, hashed {hashed:.2} times\n");
 }
 
-/// The times of a call's two builds, over all listed prices of a product, in nanoseconds: proved, plain.
+/// The times of a call's two builds, over the prices of a product, in nanoseconds: proved, plain.
 fn call_times(builds: [Value; 2], code: [u8; 2], prices: &[u32]) -> [f64; 2] {
     let pass = |k: usize| prices.iter().filter_map(|&price| builds[k](black_box(code), black_box(price)).ok()).sum::<u64>();
     let times = medians(|k| {
@@ -214,7 +214,7 @@ fn call_times(builds: [Value; 2], code: [u8; 2], prices: &[u32]) -> [f64; 2] {
 }
 
 fn print_values() {
-    println!("nanoseconds for one contract, over all listed prices of a product: value, and tick value");
+    println!("nanoseconds for one contract, over all prices within the limit and on the tick: value, and tick value");
     println!("{:>21} {:>9} {:>9} {:>9} {:>9} {:>9} {:>9}", "code", "proved", "plain", "ratio", "proved", "plain", "ratio");
     for product in &PRODUCTS {
         let prices: Vec<u32> = (0..=PRICE_LIMIT).step_by(product.tick as usize).collect();

@@ -1,4 +1,4 @@
-//! Random days that every check passes, and ways to damage their files.
+//! Random days that pass every check, and ways to damage their files.
 
 use crate::products::{Product, PRICE_LIMIT, PRODUCTS, YEAR_LIMIT};
 use crate::random::Random;

@@ -105,7 +105,7 @@ pub fn exact_value(product: &Product, price: u32) -> Fraction {
 }
 
 /// Whether 1,000 times the amount differs from 1,000 times lots times (exact value at the final price - exact value at the
-/// previous price) by at most the product's distance times the lots without their sign.
+/// previous price) by at most the product's accuracy figure times the lots without their sign.
 ///
 /// Everything is multiplied by both denominators. What is added on either side of the difference is collected by its sign, so
 /// that natural numbers are enough.
@@ -123,6 +123,6 @@ pub fn is_near(product: &Product, previous: u32, last: u32, lots: i64, amount: i
     } else {
         below = below.plus(&amount_part);
     }
-    let distance = both.times_number(product.accuracy).times_number(size);
-    above <= below.plus(&distance) && below <= above.plus(&distance)
+    let allowed = both.times_number(product.accuracy).times_number(size);
+    above <= below.plus(&allowed) && below <= above.plus(&allowed)
 }

@@ -11,7 +11,7 @@ fn assert_agree(code: [u8; 2], price: u32) {
 }
 
 #[test]
-fn every_listed_price() {
+fn every_price_within_the_limit_and_on_the_tick() {
     for product in &PRODUCTS {
         for price in (0..=PRICE_LIMIT).step_by(product.tick as usize) {
             assert_agree(product.code, price);

@@ -88,7 +88,7 @@ fn signs_after_a_rise_and_a_fall() {
     }
 }
 
-/// One tick is the smallest rise: at every listed price of every product, in files of as many marks as fit.
+/// One tick is the smallest rise: at every price of every product that is on the tick, in files of as many marks as fit.
 #[test]
 fn signs_after_one_tick() {
     let mut random = Random::new(65_539);

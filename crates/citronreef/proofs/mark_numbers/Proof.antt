@@ -1,6 +1,6 @@
 -- By the kind of answer, and for a mark that is priced by whether a correction decides: 1 and its number, or 0 twice.
 use mathlib.Core.Path.{ap, sym, _∙_}
-use Rattle.settlement.specs.OneMark.{said, latestBy}
+use Rattle.settlement.specs.OneMark.{said, highestBy}
 use Rattle.citronreef.specs.Numbers.{corrects, numberOf, markOutcomeOf}
 use mathlib.Core.Path.{_≡_, refl}
 use mathlib.Core.Bool.{Bool, true, false, cond}
@@ -11,11 +11,11 @@ use borrow.Author.Needs.{needs}
 use Rattle.citronreef.proofs.mark_numbers.Statement.{statement}
 use Rattle.citronreef.proofs.mark_numbers.Tie as tie
 
-corrects-by : (b : Bool) (n q : ℕ) → cond b 1 0 ≡ corrects (latestBy b n q)
+corrects-by : (b : Bool) (n q : ℕ) → cond b 1 0 ≡ corrects (highestBy b n q)
 corrects-by true n q = refl
 corrects-by false n q = refl
 
-number-by : (b : Bool) (n q : ℕ) → cond b n 0 ≡ numberOf (latestBy b n q)
+number-by : (b : Bool) (n q : ℕ) → cond b n 0 ≡ numberOf (highestBy b n q)
 number-by true n q = refl
 number-by false n q = refl
 

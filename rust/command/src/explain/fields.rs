@@ -1,4 +1,4 @@
-//! The fields of a record, and why a check turns one of them away. A reason says of the record what the check's words say of all.
+//! The fields of a record, and why a check refuses one of them. A reason says of the record what the check's words say of all.
 
 use crate::money::whole_text;
 use crate::products::{product, YEAR_LIMIT};
@@ -20,7 +20,7 @@ const SAME: &str = "the same in both";
 const DIFFERS: &str = "differs";
 const ABOVE_LIMIT: &str = "above 100.0000";
 
-/// The fields of a mark that one of the checks 4 to 7 turns away, or of one of the two that check 8 does.
+/// The fields of a mark that one of the checks 4 to 7 refuses, or of one of the two that check 8 does.
 pub fn mark_fields(mark: &Mark, check: u32) -> Vec<Field> {
     let same = (check == 8).then(|| SAME.to_string());
     let code = (check == 4).then(|| "not in the product table".to_string());
@@ -53,7 +53,7 @@ fn off_tick(mark: &Mark, price: u32) -> Option<String> {
     Some(format!("no multiple of {}, the tick of {}", price_text(product.tick), code_text(mark.code)))
 }
 
-/// The fields of a correction that check 9 or 10 turns away. Of two that clash, `other` is the one beside this one.
+/// The fields of a correction that check 9 or 10 refuses. Of two that clash, `other` is the one beside this one.
 pub fn correction_fields(correction: &Correction, marks: &[Mark], check: u32, other: Option<&Correction>) -> Vec<Field> {
     let number = other.map(|_| SAME.to_string());
     let mark = other.filter(|other| other.mark != correction.mark).map(|_| DIFFERS.to_string());
@@ -73,7 +73,7 @@ fn bad_price(correction: &Correction, marks: &[Mark], check: u32) -> Option<Stri
     }
 }
 
-/// The fields of a position that check 12 or 13 turns away, or of one of the two that check 16 does.
+/// The fields of a position that check 12 or 13 refuses, or of one of the two that check 16 does.
 pub fn position_fields(position: &Position, marks: &[Mark], check: u32) -> Vec<Field> {
     let same = (check == 16).then(|| SAME.to_string());
     let mark = (check == 12).then(|| no_mark(marks));

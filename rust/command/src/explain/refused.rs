@@ -29,7 +29,7 @@ pub fn refusal_text(file: &[u8], refusal: Refusal, lines: Option<&Lines>) -> Str
 }
 
 impl Refused<'_> {
-    /// The record that is turned away; for a clash the earlier one first.
+    /// The record that is refused; for a clash the earlier one first.
     fn records_text(&self, section: Section, refusal: Refusal) -> String {
         match self.clashing(refusal.number, refusal.index) {
             Some(earlier) => {

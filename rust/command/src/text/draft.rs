@@ -2,7 +2,7 @@
 
 use super::lines::{lines, Line};
 use super::words::*;
-use super::{Lines, Wrong};
+use super::{Lines, Mistake};
 use crate::quoted::{code_of, price_of, told};
 use citronreef::records::{Correction, Mark, Position};
 
@@ -35,7 +35,7 @@ pub struct Draft {
 }
 
 impl Draft {
-    pub fn of(text: &[u8]) -> Result<Draft, Wrong> {
+    pub fn of(text: &[u8]) -> Result<Draft, Mistake> {
         let mut draft = Draft::default();
         for line in lines(text) {
             draft.add(&line?)?;
@@ -43,7 +43,7 @@ impl Draft {
         Ok(draft)
     }
 
-    fn add(&mut self, line: &Line) -> Result<(), Wrong> {
+    fn add(&mut self, line: &Line) -> Result<(), Mistake> {
         match line.kind() {
             "mark" => self.add_mark(line),
             "correction" => self.add_correction(line),
@@ -56,7 +56,7 @@ impl Draft {
         }
     }
 
-    fn add_mark(&mut self, line: &Line) -> Result<(), Wrong> {
+    fn add_mark(&mut self, line: &Line) -> Result<(), Mistake> {
         expect(line, "mark CODE MONTH YEAR PREVIOUS TODAY")?;
         self.marks.push(Mark {
             code: line.field(2, code_of)?,
@@ -69,7 +69,7 @@ impl Draft {
         Ok(())
     }
 
-    fn add_correction(&mut self, line: &Line) -> Result<(), Wrong> {
+    fn add_correction(&mut self, line: &Line) -> Result<(), Mistake> {
         expect(line, "correction NUMBER MARK PRICE")?;
         let (number, mark) = (line.field(2, correction_number_of)?, line.field(NAMING_FIELD, named_of)?);
         let price = line.field(4, price_of)?;
@@ -78,7 +78,7 @@ impl Draft {
         Ok(())
     }
 
-    fn add_position(&mut self, line: &Line) -> Result<(), Wrong> {
+    fn add_position(&mut self, line: &Line) -> Result<(), Mistake> {
         expect(line, "position ACCOUNT MARK LOTS")?;
         let (account, mark) = (line.field(2, account_of)?, line.field(NAMING_FIELD, named_of)?);
         let lots = line.field(4, lots_of)?;
@@ -87,9 +87,9 @@ impl Draft {
         Ok(())
     }
 
-    fn add_header(&mut self, line: &Line) -> Result<(), Wrong> {
+    fn add_header(&mut self, line: &Line) -> Result<(), Mistake> {
         if let Some((first, _)) = self.header {
-            return Err(line.wrong(format!("line {first} has a header already")));
+            return Err(line.mistake(format!("line {first} has a header already")));
         }
         let header = header_of(line)?;
         self.header = Some((line.place, header));
@@ -98,9 +98,9 @@ impl Draft {
         Ok(())
     }
 
-    fn add_bytes(&mut self, line: &Line) -> Result<(), Wrong> {
+    fn add_bytes(&mut self, line: &Line) -> Result<(), Mistake> {
         if line.fields.len() == 1 {
-            return Err(line.wrong("bytes are written as two hexadecimal digits for each: bytes 00 ff".to_string()));
+            return Err(line.mistake("bytes are written as two hexadecimal digits for each: bytes 00 ff".to_string()));
         }
         self.lines.rest.push((self.rest.len(), line.place));
         for number in 2..=line.fields.len() {
@@ -111,22 +111,22 @@ impl Draft {
 }
 
 /// Asks that a line has as many fields as the form of its kind.
-fn expect(line: &Line, form: &str) -> Result<(), Wrong> {
+fn expect(line: &Line, form: &str) -> Result<(), Mistake> {
     let (wanted, here) = (form.split(' ').count(), line.fields.len());
     if wanted == here {
         return Ok(());
     }
-    Err(line.wrong(format!("a {} has {wanted} fields, {form}, and here are {here}", line.kind())))
+    Err(line.mistake(format!("a {} has {wanted} fields, {form}, and here are {here}", line.kind())))
 }
 
-fn header_of(line: &Line) -> Result<Header, Wrong> {
+fn header_of(line: &Line) -> Result<Header, Mistake> {
     if line.fields[1..] == ["none"] {
         return Ok(Header::Missing);
     }
     if line.fields.len() != 7 {
         let form = "header M OFFSET C OFFSET N OFFSET";
         return Err(
-            line.wrong(format!("a header has 7 fields, {form}, or is header none, and here are {}", line.fields.len()))
+            line.mistake(format!("a header has 7 fields, {form}, or is header none, and here are {}", line.fields.len()))
         );
     }
     let mut numbers = [None; 6];

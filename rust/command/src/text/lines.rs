@@ -1,6 +1,6 @@
 //! The lines of a text, and the fields of a line.
 
-use super::Wrong;
+use super::Mistake;
 use crate::money::whole_text;
 
 /// No line has more bytes. The fields of a line take many times its length, so a longer one is turned away before it is parted.
@@ -15,22 +15,22 @@ pub struct Line<'a> {
 }
 
 /// The lines of a text that say something. One that cannot be read stands there as what is wrong with it.
-pub fn lines(text: &[u8]) -> impl Iterator<Item = Result<Line<'_>, Wrong>> {
+pub fn lines(text: &[u8]) -> impl Iterator<Item = Result<Line<'_>, Mistake>> {
     let text = text.strip_prefix(BYTE_ORDER_MARK).unwrap_or(text);
     let all = text.split(|&byte| byte == b'\n').enumerate().map(|(above, bytes)| line_of(above + 1, bytes));
     all.filter(|line| !matches!(line, Ok(line) if line.fields.is_empty()))
 }
 
-fn line_of(place: usize, bytes: &[u8]) -> Result<Line<'_>, Wrong> {
+fn line_of(place: usize, bytes: &[u8]) -> Result<Line<'_>, Mistake> {
     let bytes = bytes.strip_suffix(b"\r").unwrap_or(bytes);
-    let wrong = |says: String| Wrong { line: place, says };
+    let mistake = |says: String| Mistake { line: place, says };
     if bytes.len() > LINE_LIMIT {
-        return Err(wrong(format!("the line has more than {} bytes: write several lines", whole_text(LINE_LIMIT as i64))));
+        return Err(mistake(format!("the line has more than {} bytes: write several lines", whole_text(LINE_LIMIT as i64))));
     }
     let text =
-        std::str::from_utf8(bytes).map_err(|_| wrong("these bytes are not UTF-8: save the text as UTF-8".to_string()))?;
+        std::str::from_utf8(bytes).map_err(|_| mistake("these bytes are not UTF-8: save the text as UTF-8".to_string()))?;
     if let Some(control) = text.chars().find(|&c| c.is_control() && c != '\t') {
-        return Err(wrong(format!("a control character, {}, stands in the line", control.escape_unicode())));
+        return Err(mistake(format!("a control character, {}, stands in the line", control.escape_unicode())));
     }
     let said = text.split('#').next().unwrap_or("");
     Ok(Line { place, fields: said.split_whitespace().collect() })
@@ -43,12 +43,12 @@ impl Line<'_> {
     }
 
     /// What is wrong with the line as a whole.
-    pub fn wrong(&self, says: String) -> Wrong {
-        Wrong { line: self.place, says }
+    pub fn mistake(&self, says: String) -> Mistake {
+        Mistake { line: self.place, says }
     }
 
     /// A field as it is read, by its number from 1.
-    pub fn field<T>(&self, number: usize, read: impl Fn(&str) -> Result<T, String>) -> Result<T, Wrong> {
-        read(self.fields[number - 1]).map_err(|says| Wrong::at(self.place, number, says))
+    pub fn field<T>(&self, number: usize, read: impl Fn(&str) -> Result<T, String>) -> Result<T, Mistake> {
+        read(self.fields[number - 1]).map_err(|says| Mistake::at(self.place, number, says))
     }
 }

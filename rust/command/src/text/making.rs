@@ -3,13 +3,13 @@
 use super::draft::{Draft, Header, Naming, NAMING_FIELD};
 use super::names::Names;
 use super::words::Named;
-use super::{Made, Wrong};
+use super::{Made, Mistake};
 use citronreef::records::{header, Correction, Mark, Position};
 
 /// The file that a text describes: the header, the marks, the corrections and the positions, each in the order of their lines,
 /// and then further bytes where the text has any. Names are looked up when all marks are known, so that a mark may stand below
 /// the records that name it.
-pub fn made(text: &[u8]) -> Result<Made, Wrong> {
+pub fn made(text: &[u8]) -> Result<Made, Mistake> {
     let draft = Draft::of(text)?;
     let mut bytes = header_bytes(&draft)?;
     bytes.extend(draft.marks.iter().flat_map(Mark::bytes));
@@ -27,17 +27,17 @@ pub fn made(text: &[u8]) -> Result<Made, Wrong> {
 }
 
 /// The index of the mark that a record of this line names.
-fn index_of<T>(naming: &Naming<T>, line: usize, names: &Names, draft: &Draft) -> Result<u32, Wrong> {
+fn index_of<T>(naming: &Naming<T>, line: usize, names: &Names, draft: &Draft) -> Result<u32, Mistake> {
     match naming.mark {
         Named::Index(index) => Ok(index),
         Named::Contract(contract) => {
-            names.index_of(contract, &draft.lines.marks).map_err(|says| Wrong::at(line, NAMING_FIELD, says))
+            names.index_of(contract, &draft.lines.marks).map_err(|says| Mistake::at(line, NAMING_FIELD, says))
         }
     }
 }
 
 /// The header as the text gives it, with the layout's numbers where it gives none.
-fn header_bytes(draft: &Draft) -> Result<Vec<u8>, Wrong> {
+fn header_bytes(draft: &Draft) -> Result<Vec<u8>, Mistake> {
     let (line, wanted) = draft.header.unwrap_or((1, Header::Numbers([None; 6])));
     let given = match wanted {
         Header::Missing => return Ok(Vec::new()),
@@ -47,7 +47,7 @@ fn header_bytes(draft: &Draft) -> Result<Vec<u8>, Wrong> {
     let mut bytes = Vec::new();
     for (given, usual) in given.iter().zip(usual) {
         let number = given.map_or_else(|| u32::try_from(usual), Ok);
-        let number = number.map_err(|_| Wrong { line, says: format!("the header cannot hold the number {usual}") })?;
+        let number = number.map_err(|_| Mistake { line, says: format!("the header cannot hold the number {usual}") })?;
         bytes.extend(number.to_le_bytes());
     }
     Ok(bytes)

@@ -1,4 +1,4 @@
--- By the terms: a bond's values as `bond_worths` works them, the others' one after the other.
+-- By the terms: a bond's values as `bond_values` works them, the others' one after the other.
 use borrow.Author.Needs.{needs}
 use Rattle.pricing.proofs.valuing.values_by.Statement.{statement}
 use Rattle.pricing.proofs.valuing.values_by.Tie as tie

@@ -4,15 +4,15 @@ use mathlib.Core.Path.{_≡_, ap, _∙_}
 use native.Mathlib.Omega.{arith}
 use Rattle.numbers.proofs.Chain.{at-end}
 use Rattle.dayfile.specs.Records.{correctionsIn}
-use Rattle.settlement.specs.Prices.{latestOf}
-use Rattle.settlement.specs.OneMark.{latestIn}
+use Rattle.settlement.specs.Prices.{highestOf}
+use Rattle.settlement.specs.OneMark.{highestIn}
 use Rattle.settlement.proofs.OneMark.{none-yet, one-more}
 use borrow.Author.Needs.{needs}
 use Rattle.settlement.proofs.one_mark.highest.Statement.{statement}
 use Rattle.settlement.proofs.one_mark.highest.Tie as tie
 
 abbrev Inv-loop : tie.InvT-loop
-Inv-loop corrections m n d₀ k₀ d k = (k ≤ n) × (latestIn d ≡ latestOf (correctionsIn corrections) m k)
+Inv-loop corrections m n d₀ k₀ d k = (k ≤ n) × (highestIn d ≡ highestOf (correctionsIn corrections) m k)
 
 abbrev μ-loop : tie.MeasureT-loop
 μ-loop corrections m n d₀ k₀ d k = n - k
@@ -36,7 +36,7 @@ returns : tie.Need-returns Inv-loop μ-loop
 returns c =
     let at = c .before .loop in
     let a = c .before .before .before .before .args in
-    let f = latestOf (correctionsIn (a .corrections .now)) (a .m) in
+    let f = highestOf (correctionsIn (a .corrections .now)) (a .m) in
     at-end f (at .inv .1) (at .inv .0) (c .loop-test .left) ∙ ap f (c .before .before .correction-count .ensures)
 
 pub highest-spec : {M : Type 1} → statement M
