@@ -81,7 +81,7 @@ clash c d =
     (tells-or (not (eqb (c .mark) (d .mark))) (not (eqb (c .price) (d .price))) (tells-not _ (tells-eq _ _)) (tells-not _ (tells-eq _ _)))
 
 same-holding : (p o : Position) → Tells (sameHolding p o) (SameHolding p o)
-same-holding p o = tells-and (eqb (p .account) (o .account)) (eqb (p .mark) (o .mark)) (tells-eq _ _) (tells-eq _ _)
+same-holding p o = tells-and _ _ (tells-eq _ _) (tells-eq _ _)
 
 -- ---- lots
 

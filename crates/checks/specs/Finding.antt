@@ -11,7 +11,7 @@ use Rattle.dayfile.specs.Layout.{headerSize, countsOf}
 use Rattle.dayfile.specs.Opening.{withinLimits, lookedAt}
 use Rattle.checks.specs.Judging.{fileChecks}
 
--- the checks that a file is looked at by: all of 1 to 13, where its header stands whole and no count is above its limit
+-- the checks that a file is looked at by: all of them, where its header stands whole and no count is above its limit
 abbrev pub looked : Limits → List ℕ → Bool → Bool → Checks
 looked l f true inside = lookedAt l f true
 looked l f false false = lookedAt l f false

@@ -1,4 +1,4 @@
--- What checks 1 to 13 say of a whole file.
+-- What checks 1 to 13 and 16 say of a whole file.
 use Prim.Native.Nat.{ℕ}
 use mathlib.Core.List.{List}
 use Rattle.numbers.specs.Checks.{Checks, _before_, decisionOf}
@@ -15,12 +15,12 @@ use Rattle.checks.specs.Positions.{positionChecks}
 use Rattle.checks.specs.declared.judging.Judged.{Judged}
 use Rattle.checks.specs.declared.judging.Judged.the-variants.{Passed, Refused}
 
--- the checks over the records of three lists: 4 to 13
+-- the checks over the records of three lists: 4 to 13 and 16
 abbrev pub recordChecks : Lists → Checks
 recordChecks ls =
     markChecks (ls .marks) before correctionChecks (ls .marks) (ls .corrections) before positionChecks (ls .marks) (ls .positions)
 
--- those over a file: 1 to 13
+-- those over a file: 1 to 13 and 16
 abbrev pub fileChecks : Limits → List ℕ → Checks
 fileChecks l f = headerChecks l f before recordChecks (listsOfFile f)
 

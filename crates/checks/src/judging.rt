@@ -15,8 +15,8 @@ ghost use Rattle.dayfile.specs.WithinLimits.{ListsWithinLimits};
 ghost use Rattle.checks.specs.Corrections.{resentOf};
 ghost use Rattle.checks.specs.Judging.{recordChecks, judgedBy, judgedOf};
 
-// A file that passes checks 1 to 13: its counts, and how many of its corrections bear a number that an earlier one bears. Or the number of
-// the check that turns it away, and the record's index.
+// A file that passes checks 1 to 13 and 16: its counts, and how many of its corrections bear a number that an earlier one bears.
+// Or the number of the check that turns it away, and the record's index.
 pub enum Judged {
     Passed { counts: DayFile, resent: usize },
     Refused { number: u32, index: usize },
@@ -68,7 +68,7 @@ fn judge_records(marks: &[u8], corrections: &[u8], positions: &[u8], counts: Day
     }
 }
 
-// Checks 1 to 13, in their order.
+// Checks 1 to 13 and 16, in their order.
 pub fn judge(file: &[u8]) -> Judged
     ensures { λ r. ⌜ r ≡ judgedOf fileLimits (now (file .entry)) ⌝ }
 {

@@ -8,7 +8,11 @@
 //
 // The upper half of a key of four bytes is 0, and the 32 bits determine it. Those that chose the root are the same for all keys that start
 // there, so that two keys differ in one of the others, which lead first: a walk goes past at most 27 records where there are 32 roots, past
-// 23 where there are 512, and past 18 where there are 16,384.
+// 23 where there are 512, and past 20 where there are 4,096.
+//
+// Of eight bytes, 4,096 keys can be chosen that all start at one root and go past some 40 records each. A search for the first record that
+// repeats another therefore counts the records that its walks go past. Of keys without a plan they are a sixth of the records or fewer;
+// past a quarter the search gives up, and starts anew with factors that are made of all the keys.
 use crate::keys::Key;
 use crate::keys::MOST;
 use crate::keys::WORD;

@@ -1,4 +1,4 @@
--- Files for checks 2 to 13, and files just inside their bounds, answered by the definitions; from check 4 on the second record of a section
+-- Files for checks 2 to 13 and 16, and files just inside their bounds, answered by the definitions; from check 4 on the second record of a section
 -- is the one that is looked at. Then what each check finds by itself.
 use mathlib.Core.Path.{_≡_, refl}
 use mathlib.Core.List.{List, [], _∷_, _++_, map}

@@ -1,4 +1,5 @@
-//! For the tests and the benchmark: not proved, and using nothing of the proved library but the types of its answers.
+//! For the tests and the benchmark: not proved, and using nothing of the proved library but the types of its records and answers, and
+//! its package's names for the limits of a file, which tests of that package hold to the library.
 //! `products` and `plain` are an independent build of the same job, `hashed` is the same with hash tables in place of pair loops,
 //! `sheet` prints the answer, `exact` has the exact values, and `days` makes day files.
 

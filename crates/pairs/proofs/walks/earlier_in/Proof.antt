@@ -49,7 +49,8 @@ mul-wide c =
 slice-read-wide : tie.Need-slice-read-wide Inv-loop μ-loop
 slice-read-wide c =
     let w = ends (c .before .walk .ensures) (omega arith) in
-    omega (arith, w .1, c .before .before .before .before .before .before .before .before .before .pre .0 .room, c .before .before .before .before .loop .inv .0 .1, c .before .before .before .loop-test .taken)
+    let at = c .before .before .before .before .loop in
+    omega (arith, w .1, c .before .before .before .before .before .before .before .before .before .pre .0 .room, at .inv .0 .1, c .before .before .before .loop-test .taken)
 
 mul-place : tie.Need-mul-place Inv-loop μ-loop
 mul-place c =
@@ -60,7 +61,9 @@ mul-place c =
 slice-write-place : tie.Need-slice-write-place Inv-loop μ-loop
 slice-write-place c =
     let w = ends (c .before .before .before .walk .ensures) (omega arith) in
-    omega (arith, w .1, c .before .before .before .before .before .before .before .before .before .before .before .pre .0 .room, c .before .before .before .before .before .before .loop .inv .0 .1, c .before .before .before .before .before .loop-test .taken)
+    let room = c .before .before .before .before .before .before .before .before .before .before .before .pre .0 in
+    let at = c .before .before .before .before .before .before .loop in
+    omega (arith, w .1, room .room, at .inv .0 .1, c .before .before .before .before .before .loop-test .taken)
 
 node-requires : tie.Need-node-requires Inv-loop μ-loop
 node-requires c κs = omega (arith, c .wide .ensures, c .before .before .before .before .before .loop .inv .1 .grown .filled (c .before .before .walk .result .at))

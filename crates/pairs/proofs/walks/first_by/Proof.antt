@@ -24,7 +24,12 @@ mul-first-in-2 c =
 first-in-requires-2 : tie.Need-first-in-requires-2
 first-in-requires-2 c κs =
     let room = c .before .before .before .before .before .before .before .before .before .before .before .before .before .before .pre .0 in (
-      record { keyed = room .keyed; rooted = room .rooted; limited = room .limited; room = omega (arith, room .room, c .before .before .before .place2 .given, c .before .before .before .before .before .before .before .before .before .place .given) },
+      record {
+        keyed = room .keyed;
+        rooted = room .rooted;
+        limited = room .limited;
+        room = omega (arith, room .room, c .before .before .before .place2 .given, c .before .before .before .before .before .before .before .before .before .place .given);
+      },
       c .before .before .before .before .clear .ensures,
     )
 
