@@ -32,9 +32,12 @@ factor = 2_654_435_761 + word * 2_246_822_519
 abbrev pub treeOf : Key → ℕ → List ℕ → ℕ → ℕ → Keys
 treeOf k size s f roots = record { key = keyAt k size s; roots = roots; root = rootOf f roots; rest = restOf f }
 
--- the code has a tree for at most 32 records, one for at most 512, one for at most 1,024, and one for the most that are looked at
+-- the code has trees for at most 32, 128, 512 and 1,024 records, and one for the most that are looked at
 abbrev pub small : ℕ
 small = 32
+
+abbrev pub short : ℕ
+short = 128
 
 abbrev pub middle : ℕ
 middle = 512

@@ -26,11 +26,13 @@ ghost use lib.ListN.{length};
 ghost use Rattle.numbers.specs.Folds.{first, repeating, front};
 ghost use Rattle.pairs.specs.Keys.{word, most, least, lookedAt, sameKeyIn, earlierIn};
 ghost use Rattle.pairs.specs.Trees.{nodeOf, Grown};
-ghost use Rattle.pairs.specs.Walks.{scattered, rootOf, restOf, treeOf, small, middle, large};
+ghost use Rattle.pairs.specs.Walks.{scattered, rootOf, restOf, treeOf, small, short, middle, large};
 ghost use Rattle.pairs.specs.Walks.{Keyed, Room, Walks, Tries, Zeros};
 
-// A tree for at most SMALL, at most MIDDLE, at most LARGE or at most MOST records: a short list pays for no long array.
+// Trees for at most SMALL, SHORT, MIDDLE, LARGE and MOST records: a short list pays for no long array.
 const SMALL: usize = 32;
+
+const SHORT: usize = 128;
 
 const MIDDLE: usize = 512;
 
@@ -47,9 +49,11 @@ const MOST_PLACES: usize = 3 * MOST;
 // root, and the processor foresees that.
 const SMALL_ROOTS: usize = 4 * SMALL;
 
+const SHORT_ROOTS: usize = 4 * SHORT;
+
 const MIDDLE_ROOTS: usize = 4 * MIDDLE;
 
-const LARGE_ROOTS: usize = 8 * LARGE;
+const LARGE_ROOTS: usize = 4 * LARGE;
 
 const MOST_ROOTS: usize = 3 * MOST;
 
@@ -260,6 +264,15 @@ fn first_small(records: &[u8], size: usize, key: Key, n: usize) -> Found
     first_by(records, size, key, n, SMALL_ROOTS, &mut place)
 }
 
+// Of at most SHORT records.
+fn first_short(records: &[u8], size: usize, key: Key, n: usize) -> Found
+    requires { ⌜ (Keyed key size (now records) n) × (n ≤ short) ⌝ }
+    ensures { λ r. ⌜ r ≡ first (repeating (sameKeyIn key size (now (records .entry)))) n ⌝ }
+{
+    let mut place = [0u16; SHORT_ROOTS + 2 * SHORT];
+    first_by(records, size, key, n, SHORT_ROOTS, &mut place)
+}
+
 // Of at most MIDDLE records.
 fn first_middle(records: &[u8], size: usize, key: Key, n: usize) -> Found
     requires { ⌜ (Keyed key size (now records) n) × (n ≤ middle) ⌝ }
@@ -295,6 +308,8 @@ pub fn first_repeated(records: &[u8], size: usize, key: Key) -> Found
     let n = looked_at(records, size, key);
     if n <= SMALL {
         first_small(records, size, key, n)
+    } else if n <= SHORT {
+        first_short(records, size, key, n)
     } else if n <= MIDDLE {
         first_middle(records, size, key, n)
     } else if n <= LARGE {

@@ -1,4 +1,4 @@
--- Eight roots for each record, and two places below it, fit in ten times as many places as there may be records. These start empty.
+-- Four roots for each record, and two places below it, fit in six times as many places as there may be records. These start empty.
 use Prim.Native.Nat.{_*_}
 use native.Mathlib.Omega.{arith}
 use Rattle.pairs.specs.Walks.{large}
@@ -10,7 +10,7 @@ use Rattle.pairs.proofs.walks.first_large.Tie as tie
 
 first-by-requires : tie.Need-first-by-requires
 first-by-requires c κs =
-    (room-in (8 * large) (10 * large) (c .before .before .pre .0) (omega arith) (omega arith) (omega (arith, c .before .before .pre .1)), zeros (10 * large))
+    (room-in (4 * large) (6 * large) (c .before .before .pre .0) (omega arith) (omega arith) (omega (arith, c .before .before .pre .1)), zeros (6 * large))
 
 pub first-large-spec : {M : Type 1} → statement M
 first-large-spec = tie.close
