@@ -7,7 +7,9 @@ use dayfile::mark_count;
 use numbers::Decision;
 use numbers::Found;
 use numbers::Wanted;
+use pairs::FEW;
 use pairs::Key;
+use pairs::first_of_few;
 use pairs::first_repeated;
 use products::PRICE_LIMIT;
 use products::Product;
@@ -17,11 +19,12 @@ use products::off_tick;
 ghost use mathlib.Core.Path.{_≡_};
 ghost use Prim.Native.Nat.{_≤_};
 ghost use lib.ListN.{length};
+ghost use Rattle.numbers.specs.Folds.{first, repeating};
 ghost use Rattle.numbers.specs.Checks.{decisionOf, decisionFor};
 ghost use Rattle.dayfile.specs.Limits.{fileLimits};
 ghost use Rattle.dayfile.specs.Records.{marksIn};
 ghost use Rattle.checks.specs.Table.{aboveLimit};
-ghost use Rattle.checks.specs.Marks.{highMark, markChecks, markListChecks};
+ghost use Rattle.checks.specs.Marks.{contractPair, highMark, markChecks, markListChecks};
 ghost use Rattle.checks.specs.Faults.{markFaults, faultsBy, anyMarkFault, someMarkFault, markFindings, WithMark, markDecision, Ticks};
 
 const YEAR_LIMIT: u8 = 99;
@@ -148,6 +151,17 @@ fn find_first(marks: &[u8]) -> MarkFindings
     f
 }
 
+// The first mark that repeats an earlier one.
+fn repeated(marks: &[u8]) -> Found
+    requires { ⌜ length (marksIn (now marks)) ≤ fileLimits .marks ⌝ }
+    ensures { λ r. ⌜ r ≡ first (repeating (contractPair (marksIn (now (marks .entry))))) (length (marksIn (now (marks .entry)))) ⌝ }
+{
+    if mark_count(marks) <= FEW {
+        return first_of_few(marks, Mark::SIZE, Key::Four);
+    }
+    first_repeated(marks, Mark::SIZE, Key::Four)
+}
+
 // The checks that are looked at, in their order. The first mark that repeats an earlier one is known.
 fn decide(f: MarkFindings, repeated: Found, wanted: Wanted) -> Decision
     ensures { λ r. ⌜ r ≡ markDecision f repeated wanted ⌝ }
@@ -175,7 +189,7 @@ pub(crate) fn decide_marks(
         × Ticks (marksIn (now (marks .entry))) (now (ticks .exit)) ⌝ }
 {
     let bad = some_fault(marks, ticks);
-    let repeated = first_repeated(marks, Mark::SIZE, Key::Four);
+    let repeated = repeated(marks);
     if bad | repeated.is_some() {
         return decide(find_first(marks), repeated, wanted);
     }

@@ -9,15 +9,18 @@ use dayfile::raw_position_at;
 use numbers::Decision;
 use numbers::Found;
 use numbers::Wanted;
+use pairs::FEW;
 use pairs::Key;
+use pairs::first_of_few;
 use pairs::first_repeated;
 ghost use mathlib.Core.Path.{_≡_};
 ghost use Prim.Native.Nat.{_≤_};
 ghost use lib.ListN.{length};
+ghost use Rattle.numbers.specs.Folds.{first, repeating};
 ghost use Rattle.numbers.specs.Checks.{decisionOf, decisionFor};
 ghost use Rattle.dayfile.specs.Limits.{fileLimits};
 ghost use Rattle.dayfile.specs.Records.{marksIn, positionsIn};
-ghost use Rattle.checks.specs.Positions.{positionChecks, positionListChecks};
+ghost use Rattle.checks.specs.Positions.{holdingPair, positionChecks, positionListChecks};
 ghost use Rattle.checks.specs.Faults.{rawFaults, anyPositionFault, somePositionFault};
 ghost use Rattle.checks.specs.Faults.{positionFindings, WithPosition, positionDecision};
 
@@ -112,6 +115,17 @@ fn find_first(marks: &[u8], positions: &[u8]) -> PositionFindings
     f
 }
 
+// The first position that repeats an earlier one.
+fn repeated(positions: &[u8]) -> Found
+    requires { ⌜ length (positionsIn (now positions)) ≤ fileLimits .positions ⌝ }
+    ensures { λ r. ⌜ r ≡ first (repeating (holdingPair (positionsIn (now (positions .entry))))) (length (positionsIn (now (positions .entry)))) ⌝ }
+{
+    if position_count(positions) <= FEW {
+        return first_of_few(positions, Position::SIZE, Key::Eight);
+    }
+    first_repeated(positions, Position::SIZE, Key::Eight)
+}
+
 // The checks that are looked at, in their order. The first position that repeats an earlier one is known.
 fn decide(f: PositionFindings, repeated: Found, wanted: Wanted) -> Decision
     ensures { λ r. ⌜ r ≡ positionDecision f repeated wanted ⌝ }
@@ -130,7 +144,7 @@ pub(crate) fn decide_positions(marks: &[u8], positions: &[u8], wanted: Wanted) -
     ensures { λ r. ⌜ r ≡ decisionFor (positionChecks (marksIn (now (marks .entry))) (positionsIn (now (positions .entry)))) wanted ⌝ }
 {
     let bad = some_fault(marks, positions);
-    let repeated = first_repeated(positions, Position::SIZE, Key::Eight);
+    let repeated = repeated(positions);
     if bad | repeated.is_some() {
         return decide(find_first(marks, positions), repeated, wanted);
     }

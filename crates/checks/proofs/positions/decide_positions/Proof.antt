@@ -1,10 +1,6 @@
 -- Where no position has a fault and none repeats an earlier one no check finds anything; else the first positions found decide in the order.
--- Positions have one key exactly where they agree in account and mark.
 use mathlib.Core.Path.{sym, _∙_}
-use native.Mathlib.Omega.{arith}
-use Rattle.numbers.specs.Bytes.{Bytes}
 use Rattle.dayfile.specs.Records.{marksIn, positionsIn}
-use Rattle.checks.proofs.Keyed.{repeated-position}
 use Rattle.checks.proofs.Deciding.{positions-decided, positions-clear, neither}
 use borrow.Author.Needs.{needs}
 use Rattle.checks.proofs.positions.decide_positions.Statement.{statement}
@@ -12,24 +8,16 @@ use Rattle.checks.proofs.positions.decide_positions.Tie as tie
 
 returns : tie.Need-returns
 returns c =
-    let s = c .before .before .before .before .before .before in
-    let a = s .before .before in
-    let ms = a .args .marks .now in
-    let ps = a .args .positions .now in
-    let bytes : Bytes ps = λ k. omega (arith, s .shared-slice-known2 .given k) in
-    let alone = repeated-position ps bytes (a .pre .1) (c .before .before .before .before .first-repeated .ensures) in
-    positions-decided (marksIn ms) (positionsIn ps) _ (c .before .find-first .ensures) alone (c .decide .ensures)
+    let a = c .before .before .before .before .before .before .before .before .args in
+    positions-decided (marksIn (a .marks .now)) (positionsIn (a .positions .now)) _ (c .before .find-first .ensures)
+    (c .before .before .before .before .repeated .ensures) (c .decide .ensures)
 
 returns-2 : tie.Need-returns-2
 returns-2 c =
-    let s = c .before .before .before .before in
-    let a = s .before .before in
-    let ms = a .args .marks .now in
-    let ps = a .args .positions .now in
-    let bytes : Bytes ps = λ k. omega (arith, s .shared-slice-known2 .given k) in
-    let alone = repeated-position ps bytes (a .pre .1) (c .before .before .first-repeated .ensures) in
+    let a = c .before .before .before .before .before .before .args in
     let n = neither (c .before .is-some .ensures) (c .if1 .left) in
-    sym (positions-clear (marksIn ms) (positionsIn ps) (sym (c .before .before .before .some-fault .ensures) ∙ n .0) _ (sym alone ∙ n .1))
+    sym (positions-clear (marksIn (a .marks .now)) (positionsIn (a .positions .now)) (sym (c .before .before .before .some-fault .ensures) ∙ n .0) _
+    (sym (c .before .before .repeated .ensures) ∙ n .1))
 
 pub decide-positions-spec : {M : Type 1} → statement M
 decide-positions-spec =
