@@ -118,7 +118,8 @@ fn find_first(marks: &[u8], positions: &[u8]) -> PositionFindings
 // The first position that repeats an earlier one.
 fn repeated(positions: &[u8]) -> Found
     requires { ⌜ length (positionsIn (now positions)) ≤ fileLimits .positions ⌝ }
-    ensures { λ r. ⌜ r ≡ first (repeating (holdingPair (positionsIn (now (positions .entry))))) (length (positionsIn (now (positions .entry)))) ⌝ }
+    ensures { λ r. ⌜ r
+        ≡ first (repeating (holdingPair (positionsIn (now (positions .entry))))) (length (positionsIn (now (positions .entry)))) ⌝ }
 {
     if position_count(positions) <= FEW {
         return first_of_few(positions, Position::SIZE, Key::Eight);
