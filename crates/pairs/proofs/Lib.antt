@@ -4,3 +4,6 @@ pub mod Records
 mod Rooms
 mod Trees
 mod Alone
+mod Apart
+mod Sorted
+mod Lists

@@ -22,7 +22,7 @@ use Rattle.numbers.proofs.Last.{last-miss, last-here, last-clear}
 -- ---- lists
 
 -- an entry of a list after a store
-after-set : {A : Type 0} (P : A → Type 0) (l : List A) (i j : ℕ) (v d : A) → i < length l → (j ≡ i → P v) → (j ≢ i → P (getD l j d)) → P (getD (set l i v) j d)
+pub after-set : {A : Type 0} (P : A → Type 0) (l : List A) (i j : ℕ) (v d : A) → i < length l → (j ≡ i → P v) → (j ≢ i → P (getD l j d)) → P (getD (set l i v) j d)
 after-set P l i j v d h it other = go (eqb j i) refl
   where
     go : (b : Bool) → eqb j i ≡ b → P (getD (set l i v) j d)

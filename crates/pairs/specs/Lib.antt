@@ -1,3 +1,4 @@
 pub mod Keys
+pub mod Order
 pub mod Trees
 pub mod Walks

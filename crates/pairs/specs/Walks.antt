@@ -12,25 +12,21 @@ use Rattle.pairs.specs.declared.walks.Walked.{Walked}
 use Rattle.pairs.specs.declared.walks.Tried.{Tried}
 use Rattle.pairs.specs.declared.walks.Tried.the-variants.{Answered, Unanswered}
 
--- 32 bits of a key: its lower half times the lower half of a factor, and its upper half times the upper, added
-unfoldable pub scattered : ℕ → ℕ → ℕ
-scattered f x = (x % word * (f % word) % word + x / word * (f / word) % word) % word
+-- 32 bits of a key: its lower half and its upper half, each times an odd number, added
+unfoldable pub scattered : ℕ → ℕ
+scattered x = (x % word * 2_654_435_761 % word + x / word * 1_973_900_851 % word) % word
 
 -- the highest of them choose one of the roots
-unfoldable pub rootOf : ℕ → ℕ → ℕ → ℕ
-rootOf f roots x = scattered f x * roots / word
+unfoldable pub rootOf : ℕ → ℕ → ℕ
+rootOf roots x = scattered x * roots / word
 
 -- the number whose bits lead the walk, the lowest first: the 32 bits, and then the upper half of the key
-unfoldable pub restOf : ℕ → ℕ → ℕ
-restOf f x = scattered f x + word * (x / word)
-
--- the factor that is tried first
-abbrev pub factor : ℕ
-factor = 2_654_435_761 + word * 2_246_822_519
+unfoldable pub restOf : ℕ → ℕ
+restOf x = scattered x + word * (x / word)
 
 -- the tree's keys, and where their walks start
-abbrev pub treeOf : Key → ℕ → List ℕ → ℕ → ℕ → Keys
-treeOf k size s f roots = record { key = keyAt k size s; roots = roots; root = rootOf f roots; rest = restOf f }
+abbrev pub treeOf : Key → ℕ → List ℕ → ℕ → Keys
+treeOf k size s roots = record { key = keyAt k size s; roots = roots; root = rootOf roots; rest = restOf }
 
 -- the code has trees for at most 32, 128, 512 and 1,024 records, and one for the most that are looked at
 abbrev pub small : ℕ
@@ -64,10 +60,10 @@ pub record Walks (t : Keys) (places : List ℕ) (i steps : ℕ) (r : Walked) : T
   pub within : r .steps ≤ steps
   pub going : r .ended ≡ false → steps < t .roots + 2 * i
 
--- a search that goes past at most so many records answers; where it does not, it may have to go past more
-abbrev pub Tries : Found → ℕ → ℕ → Tried → Type 0
-Tries answer steps enough (Answered o) = o ≡ answer
-Tries answer steps enough Unanswered = steps < enough
+-- a search that answers answers this
+abbrev pub Tries : Found → Tried → Type 0
+Tries answer (Answered o) = o ≡ answer
+Tries answer Unanswered = Unit {0}
 
 -- a list of zeros: places that are all empty
 abbrev pub Zeros : List ℕ → Type 0

@@ -47,6 +47,13 @@ pub(crate) fn key_at(records: &[u8], size: usize, key: Key, i: usize) -> u64
     key_of(&records[at..end], key)
 }
 
+// A u16 as an index.
+pub(crate) fn wide(x: u16) -> usize
+    ensures { λ r. ⌜ r ≡ x ⌝ }
+{
+    x as usize
+}
+
 // The smaller of two numbers.
 pub(crate) fn smaller(m: usize, n: usize) -> usize
     ensures { λ r. ⌜ r ≡ least m n ⌝ }

@@ -1,16 +1,12 @@
-// The first record that repeats an earlier one, by looking at every pair: for a handful of records, which would not be worth a tree.
+// The first record that repeats an earlier one, by looking at every pair.
 use crate::keys::Key;
 use crate::keys::key_at;
-use crate::keys::looked_at;
 use numbers::Found;
 ghost use mathlib.Core.Path.{_≡_};
 ghost use Prim.Native.Nat.{_<_};
 ghost use Rattle.numbers.specs.Folds.{first, repeating};
-ghost use Rattle.pairs.specs.Keys.{lookedAt, sameKeyIn};
+ghost use Rattle.pairs.specs.Keys.{sameKeyIn};
 ghost use Rattle.pairs.specs.Walks.{Keyed};
-
-// The most records for which this is worth while.
-pub const FEW: usize = 8;
 
 // Whether record i has the key of an earlier one.
 fn repeats(records: &[u8], size: usize, key: Key, n: usize, i: usize) -> bool
@@ -27,12 +23,11 @@ fn repeats(records: &[u8], size: usize, key: Key, n: usize, i: usize) -> bool
     found
 }
 
-// The first record that has the key of an earlier one. It answers as `first_repeated` does, of any list; but the pairs of a long one take
-// long.
-pub fn first_of_few(records: &[u8], size: usize, key: Key) -> Found
-    ensures { λ r. ⌜ r ≡ first (repeating (sameKeyIn key size (now (records .entry)))) (lookedAt key size (now (records .entry))) ⌝ }
+// The first of n records that has the key of an earlier one.
+pub(crate) fn first_by_pairs(records: &[u8], size: usize, key: Key, n: usize) -> Found
+    requires { ⌜ Keyed key size (now records) n ⌝ }
+    ensures { λ r. ⌜ r ≡ first (repeating (sameKeyIn key size (now (records .entry)))) n ⌝ }
 {
-    let n = looked_at(records, size, key);
     let mut i = 0;
     while i < n {
         if repeats(records, size, key, n, i) {

@@ -12,13 +12,14 @@
 //
 // Of eight bytes, 4,096 keys can be chosen that all start at one root and go past some 40 records each. A search for the first record that
 // repeats another therefore counts the records that its walks go past. Of keys without a plan they are a sixth of the records or fewer;
-// past a quarter the search gives up, and starts anew with factors that are made of all the keys.
+// past a quarter the search gives up, and the order of the keys decides.
 use crate::keys::Key;
 use crate::keys::MOST;
 use crate::keys::WORD;
 use crate::keys::key_at;
 use crate::keys::looked_at;
 use crate::keys::smaller;
+use crate::keys::wide;
 use numbers::Found;
 ghost use mathlib.Core.Path.{_≡_};
 ghost use Prim.Native.Nat.{_+_, _*_, _<_, _≤_};
@@ -30,7 +31,7 @@ ghost use Rattle.pairs.specs.Walks.{scattered, rootOf, restOf, treeOf, s
 ghost use Rattle.pairs.specs.Walks.{Keyed, Room, Walks, Tries, Zeros};
 
 // Trees for at most SMALL, SHORT, MIDDLE, LARGE and MOST records: a short list pays for no long array.
-const SMALL: usize = 32;
+pub(crate) const SMALL: usize = 32;
 
 const SHORT: usize = 128;
 
@@ -57,38 +58,33 @@ const LARGE_ROOTS: usize = 4 * LARGE;
 
 const MOST_ROOTS: usize = 3 * MOST;
 
-// Two odd factors, of a key's lower half and of its upper half, in the two halves of a number.
-const FACTOR: u64 = 2_654_435_761 + WORD * 2_246_822_519;
+// Two odd factors, of a key's lower half and of its upper half. With these few of the files give up in which every account holds every mark.
+const LOWER: u64 = 2_654_435_761;
+
+const UPPER: u64 = 1_973_900_851;
 
 // 32 bits of a key.
-fn scatter(x: u64, f: u64) -> u64
-    ensures { λ r. ⌜ (r ≡ scattered f x) × (r < word) ⌝ }
+fn scatter(x: u64) -> u64
+    ensures { λ r. ⌜ (r ≡ scattered x) × (r < word) ⌝ }
 {
-    let low = x % WORD * (f % WORD) % WORD;
-    let high = x / WORD * (f / WORD) % WORD;
+    let low = x % WORD * LOWER % WORD;
+    let high = x / WORD * UPPER % WORD;
     (low + high) % WORD
 }
 
 // The root where the walk of a key starts.
-fn root_of(x: u64, f: u64, roots: usize) -> usize
+fn root_of(x: u64, roots: usize) -> usize
     requires { ⌜ (0 < roots) × (roots ≤ 4 * most) ⌝ }
-    ensures { λ r. ⌜ (r ≡ rootOf f roots x) × (r < roots) ⌝ }
+    ensures { λ r. ⌜ (r ≡ rootOf roots x) × (r < roots) ⌝ }
 {
-    (scatter(x, f) * (roots as u64) / WORD) as usize
+    (scatter(x) * (roots as u64) / WORD) as usize
 }
 
 // The number whose bits lead it on.
-fn rest_of(x: u64, f: u64) -> u64
-    ensures { λ r. ⌜ r ≡ restOf f x ⌝ }
+fn rest_of(x: u64) -> u64
+    ensures { λ r. ⌜ r ≡ restOf x ⌝ }
 {
-    scatter(x, f) + WORD * (x / WORD)
-}
-
-// A u16 as an index.
-fn wide(x: u16) -> usize
-    ensures { λ r. ⌜ r ≡ x ⌝ }
-{
-    x as usize
+    scatter(x) + WORD * (x / WORD)
 }
 
 // A walk: where it ends and how many records it went past, or that it has not ended yet.
@@ -103,19 +99,18 @@ fn walk(
     records: &[u8],
     size: usize,
     key: Key,
-    f: u64,
     place: &[u16],
     roots: usize,
     i: usize,
     most_steps: usize,
 ) -> Walked
-    requires { ⌜ (Grown (treeOf key size (now records) f roots) i (now place))
+    requires { ⌜ (Grown (treeOf key size (now records) roots) i (now place))
         × (Room key size (now records) roots (length (now place)) (i + 1)) ⌝ }
-    ensures { λ r. ⌜ Walks (treeOf key size (now (records .entry)) f roots) (now (place .entry)) i «most_steps» r ⌝ }
+    ensures { λ r. ⌜ Walks (treeOf key size (now (records .entry)) roots) (now (place .entry)) i «most_steps» r ⌝ }
 {
     let x = key_at(records, size, key, i);
-    let mut rest = rest_of(x, f);
-    let mut at = root_of(x, f, roots);
+    let mut rest = rest_of(x);
+    let mut at = root_of(x, roots);
     let mut k = wide(place[at]);
     let mut steps = 0;
     while k != 0 {
@@ -160,25 +155,23 @@ pub enum Tried {
     Unanswered,
 }
 
-// The first of n records that has the key of an earlier one, by a tree whose places are empty. All walks together go past at most so many
-// records.
+// The first of n records that has the key of an earlier one, by a tree whose places are empty. All walks together go past a quarter as many
+// records, and SMALL more, or the search gives up.
 fn first_in(
     records: &[u8],
     size: usize,
     key: Key,
     n: usize,
-    f: u64,
     roots: usize,
     place: &mut [u16],
-    most_steps: usize,
 ) -> Tried
     requires { ⌜ (Room key size (now records) roots (length (now place)) n) × Zeros (now place) ⌝ }
-    ensures { λ r. ⌜ Tries (first (repeating (sameKeyIn key size (now (records .entry)))) n) «most_steps» (n * (roots + 2 * n)) r ⌝ }
+    ensures { λ r. ⌜ Tries (first (repeating (sameKeyIn key size (now (records .entry)))) n) r ⌝ }
 {
-    let mut left = most_steps;
+    let mut left = n / 4 + SMALL;
     let mut i = 0;
     while i < n {
-        let w = walk(records, size, key, f, place, roots, i, left);
+        let w = walk(records, size, key, place, roots, i, left);
         if !w.ended {
             return Tried::Unanswered;
         }
@@ -193,119 +186,56 @@ fn first_in(
     Tried::Answered(Found::Nothing)
 }
 
-// Empties the places of a tree.
-fn clear(place: &mut [u16])
-    ensures { λ _. ⌜ Zeros (now (place .exit)) ⌝ }
-{
-    let mut a = 0;
-    while a < place.len() {
-        place[a] = 0;
-        a += 1;
-    }
-}
-
-// A product's two halves, added.
-fn folded(x: u64) -> u64
-    ensures { λ r. ⌜ r < word ⌝ }
-{
-    (x / WORD + x % WORD) % WORD
-}
-
-// Two odd factors that all keys have a part in. Which they are is left free: no answer depends on it.
-fn factor_of(records: &[u8], size: usize, key: Key, n: usize) -> u64
-    requires { ⌜ Keyed key size (now records) n ⌝ }
-    ensures { λ _. ⊤ₛ }
-{
-    let mut low = 1;
-    let mut high = 1;
-    let mut i = 0;
-    while i < n {
-        let x = key_at(records, size, key, i);
-        low = folded((low + x % WORD) % WORD * (FACTOR % WORD));
-        high = folded((high + low + x / WORD) % WORD * (FACTOR / WORD));
-        i += 1;
-    }
-    low / 2 * 2 + 1 + WORD * (high / 2 * 2 + 1)
-}
-
-// The first of n records that has the key of an earlier one, with places for a tree. Keys can be chosen so that their walks are long. Then
-// the search starts anew with factors that come from the keys themselves: who chooses keys for these changes them.
-fn first_by(
-    records: &[u8],
-    size: usize,
-    key: Key,
-    n: usize,
-    roots: usize,
-    place: &mut [u16],
-) -> Found
-    requires { ⌜ (Room key size (now records) roots (length (now place)) n) × Zeros (now place) ⌝ }
-    ensures { λ r. ⌜ r ≡ first (repeating (sameKeyIn key size (now (records .entry)))) n ⌝ }
-{
-    match first_in(records, size, key, n, FACTOR, roots, place, n / 4 + SMALL) {
-        Tried::Answered(found) => {
-            return found;
-        }
-        Tried::Unanswered => {}
-    }
-    clear(place);
-    let f = factor_of(records, size, key, n);
-    match first_in(records, size, key, n, f, roots, place, n * (roots + 2 * n)) {
-        Tried::Answered(found) => found,
-        Tried::Unanswered => Found::Nothing,
-    }
-}
-
 // The same of at most SMALL records, with the places for them.
-fn first_small(records: &[u8], size: usize, key: Key, n: usize) -> Found
+pub(crate) fn first_small(records: &[u8], size: usize, key: Key, n: usize) -> Tried
     requires { ⌜ (Keyed key size (now records) n) × (n ≤ small) ⌝ }
-    ensures { λ r. ⌜ r ≡ first (repeating (sameKeyIn key size (now (records .entry)))) n ⌝ }
+    ensures { λ r. ⌜ Tries (first (repeating (sameKeyIn key size (now (records .entry)))) n) r ⌝ }
 {
     let mut place = [0u16; SMALL_ROOTS + 2 * SMALL];
-    first_by(records, size, key, n, SMALL_ROOTS, &mut place)
+    first_in(records, size, key, n, SMALL_ROOTS, &mut place)
 }
 
 // Of at most SHORT records.
-fn first_short(records: &[u8], size: usize, key: Key, n: usize) -> Found
+fn first_short(records: &[u8], size: usize, key: Key, n: usize) -> Tried
     requires { ⌜ (Keyed key size (now records) n) × (n ≤ short) ⌝ }
-    ensures { λ r. ⌜ r ≡ first (repeating (sameKeyIn key size (now (records .entry)))) n ⌝ }
+    ensures { λ r. ⌜ Tries (first (repeating (sameKeyIn key size (now (records .entry)))) n) r ⌝ }
 {
     let mut place = [0u16; SHORT_ROOTS + 2 * SHORT];
-    first_by(records, size, key, n, SHORT_ROOTS, &mut place)
+    first_in(records, size, key, n, SHORT_ROOTS, &mut place)
 }
 
 // Of at most MIDDLE records.
-fn first_middle(records: &[u8], size: usize, key: Key, n: usize) -> Found
+fn first_middle(records: &[u8], size: usize, key: Key, n: usize) -> Tried
     requires { ⌜ (Keyed key size (now records) n) × (n ≤ middle) ⌝ }
-    ensures { λ r. ⌜ r ≡ first (repeating (sameKeyIn key size (now (records .entry)))) n ⌝ }
+    ensures { λ r. ⌜ Tries (first (repeating (sameKeyIn key size (now (records .entry)))) n) r ⌝ }
 {
     let mut place = [0u16; MIDDLE_ROOTS + 2 * MIDDLE];
-    first_by(records, size, key, n, MIDDLE_ROOTS, &mut place)
+    first_in(records, size, key, n, MIDDLE_ROOTS, &mut place)
 }
 
 // Of at most LARGE records.
-fn first_large(records: &[u8], size: usize, key: Key, n: usize) -> Found
+fn first_large(records: &[u8], size: usize, key: Key, n: usize) -> Tried
     requires { ⌜ (Keyed key size (now records) n) × (n ≤ large) ⌝ }
-    ensures { λ r. ⌜ r ≡ first (repeating (sameKeyIn key size (now (records .entry)))) n ⌝ }
+    ensures { λ r. ⌜ Tries (first (repeating (sameKeyIn key size (now (records .entry)))) n) r ⌝ }
 {
     let mut place = [0u16; LARGE_ROOTS + 2 * LARGE];
-    first_by(records, size, key, n, LARGE_ROOTS, &mut place)
+    first_in(records, size, key, n, LARGE_ROOTS, &mut place)
 }
 
 // Of as many as are looked at.
-fn first_of_most(records: &[u8], size: usize, key: Key, n: usize) -> Found
+fn first_of_most(records: &[u8], size: usize, key: Key, n: usize) -> Tried
     requires { ⌜ Keyed key size (now records) n ⌝ }
-    ensures { λ r. ⌜ r ≡ first (repeating (sameKeyIn key size (now (records .entry)))) n ⌝ }
+    ensures { λ r. ⌜ Tries (first (repeating (sameKeyIn key size (now (records .entry)))) n) r ⌝ }
 {
     let mut place = [0u16; MOST_ROOTS + 2 * MOST];
-    first_by(records, size, key, n, MOST_ROOTS, &mut place)
+    first_in(records, size, key, n, MOST_ROOTS, &mut place)
 }
 
-// The first record that has the key of an earlier one. Records after the first MOST are not looked at, and none where a record is shorter
-// than its key.
-pub fn first_repeated(records: &[u8], size: usize, key: Key) -> Found
-    ensures { λ r. ⌜ r ≡ first (repeating (sameKeyIn key size (now (records .entry)))) (lookedAt key size (now (records .entry))) ⌝ }
+// The first of n records that has the key of an earlier one, by a tree for so many.
+pub(crate) fn first_by_tree(records: &[u8], size: usize, key: Key, n: usize) -> Tried
+    requires { ⌜ Keyed key size (now records) n ⌝ }
+    ensures { λ r. ⌜ Tries (first (repeating (sameKeyIn key size (now (records .entry)))) n) r ⌝ }
 {
-    let n = looked_at(records, size, key);
     if n <= SMALL {
         first_small(records, size, key, n)
     } else if n <= SHORT {
@@ -337,7 +267,7 @@ fn earlier_in(
 {
     let mut i = 0;
     while i < n {
-        let w = walk(records, size, key, FACTOR, place, roots, i, roots + 2 * i);
+        let w = walk(records, size, key, place, roots, i, roots + 2 * i);
         let at = w.at;
         let j = node(wide(place[at]), i);
         let first = j + 1;

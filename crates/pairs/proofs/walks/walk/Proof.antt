@@ -16,12 +16,12 @@ use Rattle.pairs.proofs.walks.walk.Statement.{statement}
 use Rattle.pairs.proofs.walks.walk.Tie as tie
 
 abbrev Inv-loop : tie.InvT-loop
-Inv-loop records size key f place roots i most x rest₀ at₀ k₀ steps₀ rest at k steps =
-    Leads (treeOf key size records f roots) place (keyAt key size records i) (restOf f (keyAt key size records i)) (rootOf f roots (keyAt key size records i)) rest at
+Inv-loop records size key place roots i most x rest₀ at₀ k₀ steps₀ rest at k steps =
+    Leads (treeOf key size records roots) place (keyAt key size records i) (restOf (keyAt key size records i)) (rootOf roots (keyAt key size records i)) rest at
     × (k ≡ getD place at 0) × (k ≤ i) × (at < roots + 2 * i) × (steps ≤ at) × (steps ≤ most)
 
 abbrev μ-loop : tie.MeasureT-loop
-μ-loop records size key f place roots i most x rest₀ at₀ k₀ steps₀ rest at k steps = roots + 2 * i - at
+μ-loop records size key place roots i most x rest₀ at₀ k₀ steps₀ rest at k steps = roots + 2 * i - at
 
 key-at-requires : tie.Need-key-at-requires Inv-loop μ-loop
 key-at-requires c κs = let room = c .before .before .pre .1 in (room .keyed .wide (omega arith), omega (arith, room .keyed .whole))
@@ -33,7 +33,7 @@ loop-holds : tie.Need-loop-holds Inv-loop μ-loop
 loop-holds c =
     let s = c .before .before .before .before .before .before .before in
     let x = c .before .before .before .before .key-at .ensures in (
-      rw (by-one (restOf (s .args .f)) (c .before .before .before .rest-of .ensures) x, by-one (rootOf (s .args .f) (s .args .roots)) (c .before .before .root-of .ensures .0) x) leads-start,
+      rw (by-one restOf (c .before .before .before .rest-of .ensures) x, by-one (rootOf (s .args .roots)) (c .before .before .root-of .ensures .0) x) leads-start,
       c .wide .ensures,
       omega (arith, c .wide .ensures, s .pre .0 .filled (c .before .before .root-of .result)),
       omega (arith, c .before .before .root-of .ensures .1),

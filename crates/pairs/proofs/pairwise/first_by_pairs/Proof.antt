@@ -4,13 +4,12 @@ use mathlib.Core.Path.{_≡_, sym, _∙_}
 use native.Mathlib.Omega.{arith}
 use Rattle.numbers.specs.Folds.{first, repeating}
 use Rattle.numbers.specs.declared.Found.the-variants.{Nothing}
-use Rattle.numbers.proofs.Chain.{by-one, at-end}
+use Rattle.numbers.proofs.Chain.{at-end}
 use Rattle.numbers.proofs.Searches.{first-none, first-more, first-here}
 use Rattle.pairs.specs.Keys.{sameKeyIn}
-use Rattle.pairs.proofs.Rooms.{looked-keyed}
 use borrow.Author.Needs.{needs}
-use Rattle.pairs.proofs.pairwise.first_of_few.Statement.{statement}
-use Rattle.pairs.proofs.pairwise.first_of_few.Tie as tie
+use Rattle.pairs.proofs.pairwise.first_by_pairs.Statement.{statement}
+use Rattle.pairs.proofs.pairwise.first_by_pairs.Tie as tie
 
 abbrev Inv-loop : tie.InvT-loop
 Inv-loop records size key n i₀ i = (i ≤ n) × (first (repeating (sameKeyIn key size records)) i ≡ Nothing)
@@ -22,13 +21,12 @@ loop-holds : tie.Need-loop-holds Inv-loop μ-loop
 loop-holds c = (omega arith, first-none _)
 
 repeats-requires : tie.Need-repeats-requires Inv-loop μ-loop
-repeats-requires c κs = (looked-keyed _ _ _ _ (omega (arith, c .before .before .looked-at .ensures)), c .loop-test .taken)
+repeats-requires c κs = (c .before .before .before .pre, c .loop-test .taken)
 
 returns : tie.Need-returns Inv-loop μ-loop
 returns c =
     let at = c .before .before .before .loop in
-    by-one (first _) (sym (first-here _ _ (at .i) (c .before .before .loop-test .taken) (at .inv .1) (c .before .repeats .ensures) (c .if1 .taken)))
-    (c .before .before .before .before .looked-at .ensures)
+    sym (first-here _ _ (at .i) (c .before .before .loop-test .taken) (at .inv .1) (c .before .repeats .ensures) (c .if1 .taken))
 
 loop-again : tie.Need-loop-again Inv-loop μ-loop
 loop-again c =
@@ -38,15 +36,14 @@ loop-again c =
 returns-2 : tie.Need-returns-2 Inv-loop μ-loop
 returns-2 c =
     let at = c .before .loop in
-    by-one (first _) (at-end (first _) (sym (at .inv .1)) (at .inv .0) (c .loop-test .left)) (c .before .before .looked-at .ensures)
+    at-end (first _) (sym (at .inv .1)) (at .inv .0) (c .loop-test .left)
 
-pub first-of-few-spec : {M : Type 1} → statement M
-first-of-few-spec =
+pub first-by-pairs-spec : {M : Type 1} → statement M
+first-by-pairs-spec =
     tie.close
     (tie.spec
     Inv-loop
     μ-loop
-    (λ c κs. search needs)
     loop-holds
     repeats-requires
     returns
