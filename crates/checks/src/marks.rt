@@ -7,9 +7,7 @@ use dayfile::mark_count;
 use numbers::Decision;
 use numbers::Found;
 use numbers::Wanted;
-use pairs::FEW;
 use pairs::Key;
-use pairs::first_of_few;
 use pairs::first_repeated;
 use products::PRICE_LIMIT;
 use products::Product;
@@ -156,9 +154,6 @@ fn repeated(marks: &[u8]) -> Found
     requires { ⌜ length (marksIn (now marks)) ≤ fileLimits .marks ⌝ }
     ensures { λ r. ⌜ r ≡ first (repeating (contractPair (marksIn (now (marks .entry))))) (length (marksIn (now (marks .entry)))) ⌝ }
 {
-    if mark_count(marks) <= FEW {
-        return first_of_few(marks, Mark::SIZE, Key::Four);
-    }
     first_repeated(marks, Mark::SIZE, Key::Four)
 }
 

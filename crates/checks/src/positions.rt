@@ -9,9 +9,7 @@ use dayfile::raw_position_at;
 use numbers::Decision;
 use numbers::Found;
 use numbers::Wanted;
-use pairs::FEW;
 use pairs::Key;
-use pairs::first_of_few;
 use pairs::first_repeated;
 ghost use mathlib.Core.Path.{_≡_};
 ghost use Prim.Native.Nat.{_≤_};
@@ -121,9 +119,6 @@ fn repeated(positions: &[u8]) -> Found
     ensures { λ r. ⌜ r
         ≡ first (repeating (holdingPair (positionsIn (now (positions .entry))))) (length (positionsIn (now (positions .entry)))) ⌝ }
 {
-    if position_count(positions) <= FEW {
-        return first_of_few(positions, Position::SIZE, Key::Eight);
-    }
     first_repeated(positions, Position::SIZE, Key::Eight)
 }
 

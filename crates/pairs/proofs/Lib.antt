@@ -3,7 +3,7 @@ pub mod Least
 pub mod Records
 mod Rooms
 mod Trees
-mod Alone
 mod Apart
+mod Listing
 mod Sorted
-mod Lists
+mod Sifted

@@ -10,9 +10,7 @@ use lib.ListN.{length, replicate, length-replicate}
 use borrow.Author.Tests.{ltb-false}
 use Rattle.numbers.proofs.Sections.{records-count}
 use Rattle.pairs.specs.Keys.{widthOf, least, most, lookedAt}
-use Rattle.pairs.specs.Trees.{Keys, WalkOf}
-use Rattle.pairs.specs.Walks.{Keyed, Room, Walks}
-use Rattle.pairs.specs.declared.walks.Walked.{Walked}
+use Rattle.pairs.specs.Walks.{Keyed, Room}
 use Rattle.pairs.specs.declared.keys.Key.{Key}
 use Rattle.pairs.specs.declared.keys.Key.the-variants.{Four, Eight}
 use Rattle.pairs.proofs.Least.{least-below-first, least-below-second}
@@ -43,15 +41,6 @@ module _ (k : Key) (size : ℕ) (s : List ℕ) where
   -- and so have as many of them as there are places for
   pub looked-least : {m r : ℕ} → r ≡ least (lookedAt k size s) m → Keyed k size s r × (r ≤ m)
   looked-least {m} e = (looked-keyed _ (rw e (least-below-first (lookedAt k size s) m)), rw e (least-below-second (lookedAt k size s) m))
-
--- a walk that may go past as many records as there are places ends
-pub ends : {t : Keys} {places : List ℕ} {i steps : ℕ} {r : Walked} → Walks t places i steps r → t .roots + 2 * i ≤ steps
-    → WalkOf t places i (r .at) × (r .at < t .roots + 2 * i) × (r .steps ≤ r .at)
-ends {t} {places} {i} {r = r} w h = by-end (r .ended) refl
-  where
-    by-end : (b : Bool) → r .ended ≡ b → WalkOf t places i (r .at) × (r .at < t .roots + 2 * i) × (r .steps ≤ r .at)
-    by-end true e = w .ended e
-    by-end false e = absurd (omega (arith, w .going e))
 
 -- room for one record after the other
 pub room-for : {k : Key} {size : ℕ} {s : List ℕ} {roots places n : ℕ} (i : ℕ) → i < n → Room k size s roots places n → Room k size s roots places (i + 1)

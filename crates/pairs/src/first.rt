@@ -1,70 +1,220 @@
-// The first record that repeats an earlier one: by a tree, for keys with which it is slow by their order, and of a handful by every pair.
+// The first record that repeats an earlier one: by sifting; by the order of the keys, where too many records are left of it; and of a handful
+// by every pair.
 use crate::keys::Key;
+use crate::keys::MOST;
 use crate::keys::looked_at;
+use crate::keys::smaller;
+use crate::order::Tried;
 use crate::order::first_by_order;
 use crate::pairwise::first_by_pairs;
-use crate::walks::SMALL;
-use crate::walks::Tried;
-use crate::walks::first_by_tree;
-use crate::walks::first_small;
+use crate::sift::sift_all;
 use numbers::Found;
 ghost use mathlib.Core.Path.{_≡_};
+ghost use Prim.Native.Nat.{_*_, _≤_, _<_};
+ghost use lib.ListN.{length};
 ghost use Rattle.numbers.specs.Folds.{first, repeating};
-ghost use Rattle.pairs.specs.Keys.{lookedAt, sameKeyIn};
-ghost use Rattle.pairs.specs.Walks.{Keyed, Tries};
+ghost use Rattle.pairs.specs.Keys.{keyAt, lookedAt, sameKeyIn, most};
+ghost use Rattle.pairs.specs.Walks.{Keyed, Zeros};
+ghost use Rattle.pairs.specs.Indices.{FirstOf};
+ghost use Rattle.pairs.specs.Sifting.{foundAt, Tries};
 
-// So many records are a handful: a tree would not be worth while.
+// So many records are a handful: an array would not be worth while.
 const HANDFUL: usize = 8;
 
-// The most records for `first_of_few`.
-pub const FEW: usize = SMALL;
+// Arrays for at most SMALL, SHORT, MIDDLE and MOST records: a short list pays for no long array.
+const SMALL: usize = 32;
 
-// Of more than a handful and at most FEW, by a tree.
-fn tried_few(records: &[u8], size: usize, key: Key, n: usize) -> Tried
-    requires { ⌜ Keyed key size (now records) n ⌝ }
-    ensures { λ r. ⌜ Tries (first (repeating (sameKeyIn key size (now (records .entry)))) n) r ⌝ }
+const SHORT: usize = 128;
+
+const MIDDLE: usize = 512;
+
+const LARGE: usize = 1_024;
+
+// Three or four places for each record, so that few records are left.
+const SMALL_PLACES: usize = 4 * SMALL;
+
+const SHORT_PLACES: usize = 4 * SHORT;
+
+const MIDDLE_PLACES: usize = 4 * MIDDLE;
+
+const LARGE_PLACES: usize = 4 * LARGE;
+
+const MOST_PLACES: usize = 3 * MOST;
+
+// What an index says: the number of all records that none repeats another.
+fn found_at(i: usize, n: usize) -> Found
+    ensures { λ r. ⌜ r ≡ foundAt i n ⌝ }
 {
-    if n <= HANDFUL {
-        return Tried::Unanswered;
-    }
-    if n <= SMALL {
-        return first_small(records, size, key, n);
-    }
-    Tried::Unanswered
+    if i < n { Found::At(i) } else { Found::Nothing }
 }
 
-// The first record that has the key of an earlier one. It answers as `first_repeated` does, of any list, and is made for at most FEW
-// records: it has no long array, but the pairs of a long list take long.
-pub fn first_of_few(records: &[u8], size: usize, key: Key) -> Found
-    ensures { λ r. ⌜ r ≡ first (repeating (sameKeyIn key size (now (records .entry)))) (lookedAt key size (now (records .entry))) ⌝ }
+// The first of n records that repeats an earlier one, where none is left of sifting.
+fn first_in(
+    records: &[u8],
+    size: usize,
+    key: Key,
+    n: usize,
+    list: &mut [u16],
+    place: &mut [u16],
+    other: &mut [u16],
+) -> Tried
+    requires { ⌜ (Keyed key size (now records) n) × (n ≤ length (now list)) × (0 < length (now place)) × (length (now place) ≤ 4 * most)
+        × Zeros (now place) × (0 < length (now other)) × (length (now other) ≤ 4 * most) ⌝ }
+    ensures { λ r. ⌜ Tries (FirstOf (keyAt key size (now (records .entry))) (λ u. u) n n) r ⌝ }
 {
-    let n = looked_at(records, size, key);
-    match tried_few(records, size, key, n) {
-        Tried::Answered(found) => {
-            return found;
+    let s = sift_all(records, size, key, n, list, place, other);
+    if s.left == 0 {
+        Tried::Answered(smaller(n, s.found))
+    } else {
+        Tried::Unanswered
+    }
+}
+
+// The same with arrays for at most SMALL records.
+fn first_small(records: &[u8], size: usize, key: Key, n: usize) -> Tried
+    requires { ⌜ (Keyed key size (now records) n) × (n ≤ 32) ⌝ }
+    ensures { λ r. ⌜ Tries (FirstOf (keyAt key size (now (records .entry))) (λ u. u) n n) r ⌝ }
+{
+    let mut list = [0u16; SMALL];
+    let mut place = [0u16; SMALL_PLACES];
+    let mut other = [0u16; SMALL];
+    first_in(records, size, key, n, &mut list, &mut place, &mut other)
+}
+
+// At most SHORT.
+fn first_short(records: &[u8], size: usize, key: Key, n: usize) -> Tried
+    requires { ⌜ (Keyed key size (now records) n) × (n ≤ 128) ⌝ }
+    ensures { λ r. ⌜ Tries (FirstOf (keyAt key size (now (records .entry))) (λ u. u) n n) r ⌝ }
+{
+    let mut list = [0u16; SHORT];
+    let mut place = [0u16; SHORT_PLACES];
+    let mut other = [0u16; SHORT];
+    first_in(records, size, key, n, &mut list, &mut place, &mut other)
+}
+
+// At most MIDDLE.
+fn first_middle(records: &[u8], size: usize, key: Key, n: usize) -> Tried
+    requires { ⌜ (Keyed key size (now records) n) × (n ≤ 512) ⌝ }
+    ensures { λ r. ⌜ Tries (FirstOf (keyAt key size (now (records .entry))) (λ u. u) n n) r ⌝ }
+{
+    let mut list = [0u16; MIDDLE];
+    let mut place = [0u16; MIDDLE_PLACES];
+    let mut other = [0u16; MIDDLE];
+    first_in(records, size, key, n, &mut list, &mut place, &mut other)
+}
+
+// At most LARGE.
+fn first_large(records: &[u8], size: usize, key: Key, n: usize) -> Tried
+    requires { ⌜ (Keyed key size (now records) n) × (n ≤ 1_024) ⌝ }
+    ensures { λ r. ⌜ Tries (FirstOf (keyAt key size (now (records .entry))) (λ u. u) n n) r ⌝ }
+{
+    let mut list = [0u16; LARGE];
+    let mut place = [0u16; LARGE_PLACES];
+    let mut other = [0u16; LARGE];
+    first_in(records, size, key, n, &mut list, &mut place, &mut other)
+}
+
+// As many as are looked at. Those that are left are put in order.
+fn first_of_most(records: &[u8], size: usize, key: Key, n: usize) -> Tried
+    requires { ⌜ Keyed key size (now records) n ⌝ }
+    ensures { λ r. ⌜ Tries (FirstOf (keyAt key size (now (records .entry))) (λ u. u) n n) r ⌝ }
+{
+    let mut list = [0u16; MOST];
+    let mut place = [0u16; MOST_PLACES];
+    let mut other = [0u16; MOST];
+    let s = sift_all(records, size, key, n, &mut list, &mut place, &mut other);
+    match first_by_order(
+        records,
+        size,
+        key,
+        n,
+        s.left,
+        &mut list,
+        &mut place,
+        &mut other,
+    ) {
+        Tried::Answered(i) => Tried::Answered(smaller(i, s.found)),
+        Tried::Unanswered => Tried::Unanswered,
+    }
+}
+
+// At most LARGE with arrays for these.
+fn tried_large(records: &[u8], size: usize, key: Key, n: usize) -> Tried
+    requires { ⌜ Keyed key size (now records) n ⌝ }
+    ensures { λ r. ⌜ Tries (FirstOf (keyAt key size (now (records .entry))) (λ u. u) n n) r ⌝ }
+{
+    if LARGE < n {
+        return Tried::Unanswered;
+    }
+    first_large(records, size, key, n)
+}
+
+// The first of n records that repeats an earlier one, with arrays for at most LARGE or MOST. The order always answers; that it does is not
+// proved, and nothing but the time depends on it.
+fn first_by_most(records: &[u8], size: usize, key: Key, n: usize) -> Found
+    requires { ⌜ Keyed key size (now records) n ⌝ }
+    ensures { λ r. ⌜ r ≡ first (repeating (sameKeyIn key size (now (records .entry)))) n ⌝ }
+{
+    match tried_large(records, size, key, n) {
+        Tried::Answered(i) => {
+            return found_at(i, n);
+        }
+        Tried::Unanswered => {}
+    }
+    match first_of_most(records, size, key, n) {
+        Tried::Answered(i) => {
+            return found_at(i, n);
         }
         Tried::Unanswered => {}
     }
     first_by_pairs(records, size, key, n)
 }
 
+// At most SHORT or MIDDLE with arrays for these.
+fn tried_middle(records: &[u8], size: usize, key: Key, n: usize) -> Tried
+    requires { ⌜ (Keyed key size (now records) n) × (n ≤ 512) ⌝ }
+    ensures { λ r. ⌜ Tries (FirstOf (keyAt key size (now (records .entry))) (λ u. u) n n) r ⌝ }
+{
+    if n <= SHORT {
+        return first_short(records, size, key, n);
+    }
+    first_middle(records, size, key, n)
+}
+
+// With arrays for at most MIDDLE, or with longer ones for a longer list, and where some records are left.
+fn first_by_middle(records: &[u8], size: usize, key: Key, n: usize) -> Found
+    requires { ⌜ Keyed key size (now records) n ⌝ }
+    ensures { λ r. ⌜ r ≡ first (repeating (sameKeyIn key size (now (records .entry)))) n ⌝ }
+{
+    if MIDDLE < n {
+        return first_by_most(records, size, key, n);
+    }
+    match tried_middle(records, size, key, n) {
+        Tried::Answered(i) => {
+            return found_at(i, n);
+        }
+        Tried::Unanswered => {}
+    }
+    first_by_most(records, size, key, n)
+}
+
 // The first record that has the key of an earlier one. Records after the first MOST are not looked at, and none where a record is shorter
-// than its key. The order always answers; that it does is not proved, and nothing but the time would depend on it.
+// than its key.
 pub fn first_repeated(records: &[u8], size: usize, key: Key) -> Found
     ensures { λ r. ⌜ r ≡ first (repeating (sameKeyIn key size (now (records .entry)))) (lookedAt key size (now (records .entry))) ⌝ }
 {
     let n = looked_at(records, size, key);
-    match first_by_tree(records, size, key, n) {
-        Tried::Answered(found) => {
-            return found;
+    if n <= HANDFUL {
+        return first_by_pairs(records, size, key, n);
+    }
+    if SMALL < n {
+        return first_by_middle(records, size, key, n);
+    }
+    match first_small(records, size, key, n) {
+        Tried::Answered(i) => {
+            return found_at(i, n);
         }
         Tried::Unanswered => {}
     }
-    match first_by_order(records, size, key, n) {
-        Tried::Answered(found) => {
-            return found;
-        }
-        Tried::Unanswered => {}
-    }
-    first_by_pairs(records, size, key, n)
+    first_by_middle(records, size, key, n)
 }

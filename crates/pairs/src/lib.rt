@@ -2,12 +2,12 @@
 // eight bytes make.
 mod first;
 mod keys;
+mod lists;
 mod order;
 mod pairwise;
+mod sift;
 mod walks;
 
-pub use first::FEW;
-pub use first::first_of_few;
 pub use first::first_repeated;
 pub use keys::Key;
 pub use keys::MOST;

@@ -9,10 +9,6 @@
 // The upper half of a key of four bytes is 0, and the 32 bits determine it. Those that chose the root are the same for all keys that start
 // there, so that two keys differ in one of the others, which lead first: a walk goes past at most 27 records where there are 32 roots, past
 // 23 where there are 512, and past 20 where there are 4,096.
-//
-// Of eight bytes, 4,096 keys can be chosen that all start at one root and go past some 40 records each. A search for the first record that
-// repeats another therefore counts the records that its walks go past. Of keys without a plan they are a sixth of the records or fewer;
-// past a quarter the search gives up, and the order of the keys decides.
 use crate::keys::Key;
 use crate::keys::MOST;
 use crate::keys::WORD;
@@ -20,24 +16,18 @@ use crate::keys::key_at;
 use crate::keys::looked_at;
 use crate::keys::smaller;
 use crate::keys::wide;
-use numbers::Found;
 ghost use mathlib.Core.Path.{_≡_};
 ghost use Prim.Native.Nat.{_+_, _*_, _<_, _≤_};
 ghost use lib.ListN.{length};
-ghost use Rattle.numbers.specs.Folds.{first, repeating, front};
-ghost use Rattle.pairs.specs.Keys.{word, most, least, lookedAt, sameKeyIn, earlierIn};
-ghost use Rattle.pairs.specs.Trees.{nodeOf, Grown};
-ghost use Rattle.pairs.specs.Walks.{scattered, rootOf, restOf, treeOf, small, short, middle, large};
-ghost use Rattle.pairs.specs.Walks.{Keyed, Room, Walks, Tries, Zeros};
+ghost use Rattle.numbers.specs.Folds.{front};
+ghost use Rattle.pairs.specs.Keys.{word, most, least, lookedAt, earlierIn};
+ghost use Rattle.pairs.specs.Trees.{nodeOf, WalkOf, Grown};
+ghost use Rattle.pairs.specs.Walks.{scattered, rootOf, restOf, treeOf, small, middle, Keyed, Room, Zeros};
 
-// Trees for at most SMALL, SHORT, MIDDLE, LARGE and MOST records: a short list pays for no long array.
-pub(crate) const SMALL: usize = 32;
-
-const SHORT: usize = 128;
+// A tree for at most SMALL, at most MIDDLE or at most MOST records: a short list pays for no long array.
+const SMALL: usize = 32;
 
 const MIDDLE: usize = 512;
-
-const LARGE: usize = 1_024;
 
 // As many roots, and two places below each record.
 const SMALL_PLACES: usize = 3 * SMALL;
@@ -46,25 +36,13 @@ const MIDDLE_PLACES: usize = 3 * MIDDLE;
 
 const MOST_PLACES: usize = 3 * MOST;
 
-// More roots where only the first record that repeats another is looked for: of a list without one nearly every walk then ends at its
-// root, and the processor foresees that.
-const SMALL_ROOTS: usize = 4 * SMALL;
-
-const SHORT_ROOTS: usize = 4 * SHORT;
-
-const MIDDLE_ROOTS: usize = 4 * MIDDLE;
-
-const LARGE_ROOTS: usize = 4 * LARGE;
-
-const MOST_ROOTS: usize = 3 * MOST;
-
-// Two odd factors, of a key's lower half and of its upper half. With these few of the files give up in which every account holds every mark.
+// Two odd factors, of a key's lower half and of its upper half.
 const LOWER: u64 = 2_654_435_761;
 
 const UPPER: u64 = 1_973_900_851;
 
 // 32 bits of a key.
-fn scatter(x: u64) -> u64
+pub(crate) fn scatter(x: u64) -> u64
     ensures { λ r. ⌜ (r ≡ scattered x) × (r < word) ⌝ }
 {
     let low = x % WORD * LOWER % WORD;
@@ -87,58 +65,26 @@ fn rest_of(x: u64) -> u64
     scatter(x) + WORD * (x / WORD)
 }
 
-// A walk: where it ends and how many records it went past, or that it has not ended yet.
-pub struct Walked {
-    pub at: usize,
-    pub steps: usize,
-    pub ended: bool,
-}
-
-// The walk of record i, past at most so many records. It ends at a place that is empty, or holds the first record with the same key.
-fn walk(
-    records: &[u8],
-    size: usize,
-    key: Key,
-    place: &[u16],
-    roots: usize,
-    i: usize,
-    most_steps: usize,
-) -> Walked
+// The place where the walk of record i ends: it is empty, or holds the first record with the same key.
+fn walk(records: &[u8], size: usize, key: Key, place: &[u16], roots: usize, i: usize) -> usize
     requires { ⌜ (Grown (treeOf key size (now records) roots) i (now place))
         × (Room key size (now records) roots (length (now place)) (i + 1)) ⌝ }
-    ensures { λ r. ⌜ Walks (treeOf key size (now (records .entry)) roots) (now (place .entry)) i «most_steps» r ⌝ }
+    ensures { λ r. ⌜ (WalkOf (treeOf key size (now (records .entry)) roots) (now (place .entry)) i r) × (r < roots + 2 * i) ⌝ }
 {
     let x = key_at(records, size, key, i);
     let mut rest = rest_of(x);
     let mut at = root_of(x, roots);
     let mut k = wide(place[at]);
-    let mut steps = 0;
     while k != 0 {
         let j = k - 1;
         if key_at(records, size, key, j) == x {
-            return Walked {
-                at,
-                steps,
-                ended: true,
-            };
-        }
-        if steps == most_steps {
-            return Walked {
-                at,
-                steps,
-                ended: false,
-            };
+            return at;
         }
         at = roots + 2 * j + (rest % 2) as usize;
         rest = rest / 2;
         k = wide(place[at]);
-        steps += 1;
     }
-    Walked {
-        at,
-        steps,
-        ended: true,
-    }
+    at
 }
 
 // The record that a place holds, or i where it is empty.
@@ -147,106 +93,6 @@ fn node(k: usize, i: usize) -> usize
     ensures { λ r. ⌜ (r ≡ nodeOf k i) × (r ≤ i) ⌝ }
 {
     if k == 0 { i } else { k - 1 }
-}
-
-// What comes of a search: an answer, or that the walks got too long.
-pub enum Tried {
-    Answered(Found),
-    Unanswered,
-}
-
-// The first of n records that has the key of an earlier one, by a tree whose places are empty. All walks together go past a quarter as many
-// records, and SMALL more, or the search gives up.
-fn first_in(
-    records: &[u8],
-    size: usize,
-    key: Key,
-    n: usize,
-    roots: usize,
-    place: &mut [u16],
-) -> Tried
-    requires { ⌜ (Room key size (now records) roots (length (now place)) n) × Zeros (now place) ⌝ }
-    ensures { λ r. ⌜ Tries (first (repeating (sameKeyIn key size (now (records .entry)))) n) r ⌝ }
-{
-    let mut left = n / 4 + SMALL;
-    let mut i = 0;
-    while i < n {
-        let w = walk(records, size, key, place, roots, i, left);
-        if !w.ended {
-            return Tried::Unanswered;
-        }
-        let at = w.at;
-        if wide(place[at]) != 0 {
-            return Tried::Answered(Found::At(i));
-        }
-        left -= w.steps;
-        i += 1;
-        place[at] = i as u16;
-    }
-    Tried::Answered(Found::Nothing)
-}
-
-// The same of at most SMALL records, with the places for them.
-pub(crate) fn first_small(records: &[u8], size: usize, key: Key, n: usize) -> Tried
-    requires { ⌜ (Keyed key size (now records) n) × (n ≤ small) ⌝ }
-    ensures { λ r. ⌜ Tries (first (repeating (sameKeyIn key size (now (records .entry)))) n) r ⌝ }
-{
-    let mut place = [0u16; SMALL_ROOTS + 2 * SMALL];
-    first_in(records, size, key, n, SMALL_ROOTS, &mut place)
-}
-
-// Of at most SHORT records.
-fn first_short(records: &[u8], size: usize, key: Key, n: usize) -> Tried
-    requires { ⌜ (Keyed key size (now records) n) × (n ≤ short) ⌝ }
-    ensures { λ r. ⌜ Tries (first (repeating (sameKeyIn key size (now (records .entry)))) n) r ⌝ }
-{
-    let mut place = [0u16; SHORT_ROOTS + 2 * SHORT];
-    first_in(records, size, key, n, SHORT_ROOTS, &mut place)
-}
-
-// Of at most MIDDLE records.
-fn first_middle(records: &[u8], size: usize, key: Key, n: usize) -> Tried
-    requires { ⌜ (Keyed key size (now records) n) × (n ≤ middle) ⌝ }
-    ensures { λ r. ⌜ Tries (first (repeating (sameKeyIn key size (now (records .entry)))) n) r ⌝ }
-{
-    let mut place = [0u16; MIDDLE_ROOTS + 2 * MIDDLE];
-    first_in(records, size, key, n, MIDDLE_ROOTS, &mut place)
-}
-
-// Of at most LARGE records.
-fn first_large(records: &[u8], size: usize, key: Key, n: usize) -> Tried
-    requires { ⌜ (Keyed key size (now records) n) × (n ≤ large) ⌝ }
-    ensures { λ r. ⌜ Tries (first (repeating (sameKeyIn key size (now (records .entry)))) n) r ⌝ }
-{
-    let mut place = [0u16; LARGE_ROOTS + 2 * LARGE];
-    first_in(records, size, key, n, LARGE_ROOTS, &mut place)
-}
-
-// Of as many as are looked at.
-fn first_of_most(records: &[u8], size: usize, key: Key, n: usize) -> Tried
-    requires { ⌜ Keyed key size (now records) n ⌝ }
-    ensures { λ r. ⌜ Tries (first (repeating (sameKeyIn key size (now (records .entry)))) n) r ⌝ }
-{
-    let mut place = [0u16; MOST_ROOTS + 2 * MOST];
-    first_in(records, size, key, n, MOST_ROOTS, &mut place)
-}
-
-// The first of n records that has the key of an earlier one, by a tree for so many.
-pub(crate) fn first_by_tree(records: &[u8], size: usize, key: Key, n: usize) -> Tried
-    requires { ⌜ Keyed key size (now records) n ⌝ }
-    ensures { λ r. ⌜ Tries (first (repeating (sameKeyIn key size (now (records .entry)))) n) r ⌝ }
-{
-    if n <= SMALL {
-        first_small(records, size, key, n)
-    } else if n <= SHORT {
-        first_short(records, size, key, n)
-    } else if n <= MIDDLE {
-        first_middle(records, size, key, n)
-    } else if n <= LARGE {
-        first_large(records, size, key, n)
-    } else {
-        first_of_most(records, size, key, n)
-    }
 }
 
 // For each of n records, one more than the index of the last earlier one with its key, or 0, by a tree whose places are empty. Beside each
@@ -267,8 +113,7 @@ fn earlier_in(
 {
     let mut i = 0;
     while i < n {
-        let w = walk(records, size, key, place, roots, i, roots + 2 * i);
-        let at = w.at;
+        let at = walk(records, size, key, place, roots, i);
         let j = node(wide(place[at]), i);
         let first = j + 1;
         place[at] = first as u16;

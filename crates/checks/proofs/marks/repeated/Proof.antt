@@ -8,24 +8,13 @@ use Rattle.checks.proofs.marks.repeated.Tie as tie
 
 returns : tie.Need-returns
 returns c =
-    let s = c .before .before .before in
-    let list = s .before .args .marks .now in
-    let bytes : Bytes list = λ k. omega (arith, s .shared-slice-known .given k) in
-    repeated-mark list bytes (s .before .pre) (c .first-of-few .ensures)
-
-returns-2 : tie.Need-returns-2
-returns-2 c =
-    let s = c .before .before .before in
+    let s = c .before in
     let list = s .before .args .marks .now in
     let bytes : Bytes list = λ k. omega (arith, s .shared-slice-known .given k) in
     repeated-mark list bytes (s .before .pre) (c .first-repeated .ensures)
 
 pub repeated-spec : {M : Type 1} → statement M
-repeated-spec =
-    tie.close
+repeated-spec = tie.close
     (tie.spec
     (λ c κs. search needs)
-    (λ c κs. search needs)
-    returns
-    (λ c κs. search needs)
-    returns-2)
+    returns)

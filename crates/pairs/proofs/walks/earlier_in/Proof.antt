@@ -10,7 +10,7 @@ use Rattle.numbers.proofs.Tables.{filled}
 use Rattle.pairs.specs.Keys.{earlierIn}
 use Rattle.pairs.specs.Trees.{nodeOf, Tree}
 use Rattle.pairs.specs.Walks.{treeOf}
-use Rattle.pairs.proofs.Rooms.{room-for, ends}
+use Rattle.pairs.proofs.Rooms.{room-for}
 use Rattle.pairs.proofs.Trees.{tree-start, tree-more, latest-here}
 use borrow.Author.Needs.{needs}
 use Rattle.pairs.proofs.walks.earlier_in.Statement.{statement}
@@ -27,12 +27,6 @@ abbrev μ-loop : tie.MeasureT-loop
 loop-holds : tie.Need-loop-holds Inv-loop μ-loop
 loop-holds c = let p = c .before .before .before .before .pre in ((omega arith, refl, refl, refl), tree-start (p .1) (p .2), refl)
 
-mul-walk : tie.Need-mul-walk Inv-loop μ-loop
-mul-walk c = omega (arith, c .before .before .before .before .before .before .before .pre .0 .keyed .few, c .before .loop-test .taken)
-
-add-walk : tie.Need-add-walk Inv-loop μ-loop
-add-walk c = let s = c .before .before .before .before .before .before .before in omega (arith, s .pre .0 .limited, s .pre .0 .keyed .few, c .before .loop-test .taken)
-
 walk-requires : tie.Need-walk-requires Inv-loop μ-loop
 walk-requires c κs =
     let at = c .before .before .loop in (
@@ -40,39 +34,14 @@ walk-requires c κs =
       rw (at .inv .0 .1) (room-for (at .i) (c .before .loop-test .taken) (c .before .before .before .before .before .before .before .pre .0)),
     )
 
-mul-wide : tie.Need-mul-wide Inv-loop μ-loop
-mul-wide c =
-    let w = ends (c .walk .ensures) (omega arith) in
-    let room = c .before .before .before .before .before .before .before .before .pre .0 in
-    omega (arith, w .1, room .limited, room .keyed .few, c .before .before .loop-test .taken)
-
-slice-read-wide : tie.Need-slice-read-wide Inv-loop μ-loop
-slice-read-wide c =
-    let w = ends (c .before .walk .ensures) (omega arith) in
-    let at = c .before .before .before .before .loop in
-    omega (arith, w .1, c .before .before .before .before .before .before .before .before .before .pre .0 .room, at .inv .0 .1, c .before .before .before .loop-test .taken)
-
-mul-place : tie.Need-mul-place Inv-loop μ-loop
-mul-place c =
-    let w = ends (c .before .before .before .walk .ensures) (omega arith) in
-    let room = c .before .before .before .before .before .before .before .before .before .before .before .pre .0 in
-    omega (arith, w .1, room .limited, room .keyed .few, c .before .before .before .before .before .loop-test .taken)
-
-slice-write-place : tie.Need-slice-write-place Inv-loop μ-loop
-slice-write-place c =
-    let w = ends (c .before .before .before .walk .ensures) (omega arith) in
-    let room = c .before .before .before .before .before .before .before .before .before .before .before .pre .0 in
-    let at = c .before .before .before .before .before .before .loop in
-    omega (arith, w .1, room .room, at .inv .0 .1, c .before .before .before .before .before .loop-test .taken)
-
 node-requires : tie.Need-node-requires Inv-loop μ-loop
-node-requires c κs = omega (arith, c .wide .ensures, c .before .before .before .before .before .loop .inv .1 .grown .filled (c .before .before .walk .result .at))
+node-requires c κs = omega (arith, c .wide .ensures, c .before .before .before .before .before .loop .inv .1 .grown .filled (c .before .before .walk .result))
 
 loop-again : tie.Need-loop-again Inv-loop μ-loop
 loop-again c =
     let s = c .before .before .before .before .before .before .before .before .before .before .before .before in
     let at = c .before .before .before .before .before .before .before .loop in
-    let w = ends (c .before .before .before .before .walk .ensures) (omega arith) in
+    let w = c .before .before .before .before .walk .ensures in
     let h = c .before .before .before .before .before .before .loop-test .taken in
     let is = by-one (λ k. nodeOf k (at .i)) (c .before .node .ensures .0) (c .before .before .wide .ensures) in (
       (omega arith, simp length-set (at .inv .0 .1), simp length-set (at .inv .0 .2), simp length-set (at .inv .0 .3)),
@@ -99,17 +68,15 @@ earlier-in-spec =
     Inv-loop
     μ-loop
     loop-holds
-    mul-walk
-    add-walk
     walk-requires
-    mul-wide
-    slice-read-wide
+    (λ c. search needs)
+    (λ c. search needs)
     (λ c κs. search needs)
     node-requires
     (λ c. search needs)
     (λ c. search needs)
-    mul-place
-    slice-write-place
+    (λ c. search needs)
+    (λ c. search needs)
     (λ c. search needs)
     (λ c. search needs)
     (λ c. search needs)

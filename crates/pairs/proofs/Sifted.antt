@@ -1,0 +1,257 @@
+-- A list that is being sifted. Each of the first t listed records stays at the place of its key or is left; one that is left has found
+-- another key there. So where two of them have one key both are left.
+use mathlib.Core.Path.{_≡_, refl, sym, ap, _∙_}
+use mathlib.Core.Bool.{Bool, true, false, cond}
+use mathlib.Core.List.{List}
+use mathlib.Core.Logic.{_⊎_, inl, inr, ⊎-elim}
+use Prim.Native.Nat.{ℕ, suc, _+_, _≤_, _<_}
+use native.Mathlib.Nat.{eq-or-lt-of-le, le-trans}
+use native.Mathlib.Decide.{decLt}
+use native.Mathlib.Omega.{arith}
+use lib.Dec.{leb}
+use native.Mathlib.Numerals.{add-one}
+use lib.ListN.{length, getD, set}
+use lib.Seq.{getD-set-same, getD-set-other}
+use borrow.Author.Tests.{leb-true, leb-false}
+use Rattle.numbers.specs.Folds.{Filled}
+use Rattle.pairs.specs.Keys.{least}
+use Rattle.pairs.specs.Indices.{at, Hit, Repeats, FirstOf, Listed}
+use Rattle.pairs.specs.Sifting.{Sifts}
+use Rattle.pairs.proofs.Least.{least-first, least-second, least-below-first, least-below-second}
+use Rattle.pairs.proofs.Trees.{after-set}
+
+pub record Sifting (key root before : ℕ → ℕ) (places after : List ℕ) (t left : ℕ) : Type 0 where
+  pub fewer : left ≤ t
+  pub tail : (u : ℕ) → t ≤ u → at after u ≡ before u
+  pub held : (a h : ℕ) → getD places a 0 ≡ suc h → Hit before t h
+  pub leaves : (u : ℕ) → u < left → Hit before t (at after u)
+  pub rising : (u v : ℕ) → u < v → v < left → at after u < at after v
+  pub full : (u : ℕ) → u < left → getD places (root (key (at after u))) 0 ≡ 0 → ⊥
+  pub differ : (u h : ℕ) → u < left → getD places (root (key (at after u))) 0 ≡ suc h → key h ≡ key (at after u) → ⊥
+  pub stays : (i : ℕ) → Hit before t i → (getD places (root (key i)) 0 ≡ suc i) ⊎ Hit (at after) left i
+
+-- ---- lists that are not sifted yet
+
+module _ {key root before : ℕ → ℕ} {places list : List ℕ} where
+  pub sifting-start : ((a : ℕ) → getD places a 0 ≡ 0) → ((u : ℕ) → at list u ≡ before u) → Sifting key root before places list 0 0
+  sifting-start z e =
+      record {
+        fewer = omega arith;
+        tail = λ u h. e u;
+        held = λ a h p. absurd (omega (arith, z a, p));
+        leaves = λ u h. absurd (omega arith);
+        rising = λ u v h k. absurd (omega arith);
+        full = λ u h. absurd (omega arith);
+        differ = λ u h k. absurd (omega arith);
+        stays = λ i a. absurd (omega (arith, a .below));
+      }
+
+hit-more : {f : ℕ → ℕ} {t i : ℕ} → Hit f t i → Hit f (t + 1) i
+hit-more a = record { place = a .place; below = omega (arith, a .below); is = a .is }
+
+hit-last : (f : ℕ → ℕ) (t : ℕ) → Hit f (t + 1) (f t)
+hit-last f t = record { place = t; below = omega arith; is = refl }
+
+-- one of t + 1 is one of t, or the last
+hit-split : {f : ℕ → ℕ} {t i : ℕ} → Hit f (t + 1) i → (f t ≡ i) ⊎ Hit f t i
+hit-split {f} {t} a =
+    ⊎-elim
+    (λ (e : a .place ≡ t). inl (sym (ap f e) ∙ a .is))
+    (λ (l : a .place < t). inr (record { place = a .place; below = l; is = a .is }))
+    (eq-or-lt-of-le (omega (arith, a .below)))
+
+-- one entry set at the end of those that are left
+hit-set : (list : List ℕ) (k x : ℕ) {i : ℕ} → k < length list → Hit (at list) k i → Hit (at (set list k x)) (k + 1) i
+hit-set list k x {i} l a =
+    record {
+      place = a .place;
+      below = omega (arith, a .below);
+      is = after-set (λ (z : ℕ). z ≡ i) list k (a .place) x 0 l (λ e. absurd (omega (arith, a .below, e))) (λ e. a .is);
+    }
+
+module _ {key root before : ℕ → ℕ} {places list : List ℕ} {t left : ℕ} (s : Sifting key root before places list t left) where
+  -- the record that is looked at has its place for itself, and stays
+  pub stay : {i e : ℕ} → i ≡ before t → e ≡ root (key i) → getD places e 0 ≡ 0 → e < length places
+      → Sifting key root before (set places e (i + 1)) list (t + 1) left
+  stay {i} {e} is root-is empty l =
+      record {
+        fewer = omega (arith, s .fewer);
+        tail = λ u h. s .tail u (omega arith);
+        held = λ a h.
+            after-set (λ (z : ℕ). z ≡ suc h → Hit before (t + 1) h) places e a (i + 1) 0 l
+            (λ q p. let same : i ≡ h = omega (arith, p) in rw (sym same, is) (hit-last before t))
+            (λ q p. hit-more (s .held a h p));
+        leaves = λ u h. hit-more (s .leaves u h);
+        rising = s .rising;
+        full = λ u h.
+            after-set (λ (z : ℕ). z ≡ 0 → ⊥) places e (root (key (at list u))) (i + 1) 0 l (λ q p. absurd (omega (arith, p))) (λ q. s .full u h);
+        differ = λ u h k.
+            after-set (λ (z : ℕ). z ≡ suc h → key h ≡ key (at list u) → ⊥) places e (root (key (at list u))) (i + 1) 0 l
+            (λ q p r. s .full u k (ap (λ a. getD places a 0) q ∙ empty))
+            (λ q. s .differ u h k);
+        stays = λ j a. ⊎-elim (λ (q : before t ≡ j). inl (here j (is ∙ q))) (λ (b : Hit before t j). still j (s .stays j b)) (hit-split a);
+      }
+    where
+      here : (j : ℕ) → i ≡ j → getD (set places e (i + 1)) (root (key j)) 0 ≡ suc j
+      here j q = let r : root (key j) ≡ e = ap (λ k. root (key k)) (sym q) ∙ sym root-is in rw r (getD-set-same places e (i + 1) 0 l ∙ add-one i ∙ ap suc q)
+
+      still : (j : ℕ) → (getD places (root (key j)) 0 ≡ suc j) ⊎ Hit (at list) left j
+          → (getD (set places e (i + 1)) (root (key j)) 0 ≡ suc j) ⊎ Hit (at list) left j
+      still j (inl p) =
+          inl
+          (after-set (λ (z : ℕ). z ≡ suc j) places e (root (key j)) (i + 1) 0 l
+          (λ q. absurd (omega (arith, p, ap (λ a. getD places a 0) q, empty)))
+          (λ q. p))
+      still j (inr b) = inr b
+
+  -- it has found another key, and is left
+  pub leave : {i e h : ℕ} → i ≡ before t → e ≡ root (key i) → getD places e 0 ≡ suc h → (key h ≡ key i → ⊥) → left < length list
+      → ((u : ℕ) → u < t → before u < before t) → Sifting key root before places (set list left i) (t + 1) (left + 1)
+  leave {i} {e} {h} is root-is full-is other l up =
+      record {
+        fewer = omega (arith, s .fewer);
+        tail = λ u k. as-was u (λ q. omega (arith, s .fewer, q)) ∙ s .tail u (omega arith);
+        held = λ a g p. hit-more (s .held a g p);
+        leaves = λ u k. by-end (λ v. Hit before (t + 1) (at (set list left i) v)) u k
+            (rw (now-there, is) (hit-last before t))
+            (λ b. rw (as-was u (λ q. omega (arith, q, b))) (hit-more (s .leaves u b)));
+        rising = λ u v k b.
+            ⊎-elim
+            (λ (q : v ≡ left). rw (as-was u (λ r. omega (arith, r, q, k)), q, now-there, is) (lower u (omega (arith, q, k))))
+            (λ (c : v < left). rw (as-was u (λ r. omega (arith, r, c, k)), as-was v (λ r. omega (arith, r, c))) (s .rising u v k c))
+            (eq-or-lt-of-le (omega (arith, b)));
+        full = λ u k. by-end (λ v. getD places (root (key (at (set list left i) v))) 0 ≡ 0 → ⊥) u k
+            (rw (now-there, sym root-is) (λ p. omega (arith, p, full-is)))
+            (λ b. rw (as-was u (λ q. omega (arith, q, b))) (s .full u b));
+        differ = λ u g k. by-end (λ v. getD places (root (key (at (set list left i) v))) 0 ≡ suc g → key g ≡ key (at (set list left i) v) → ⊥) u k
+            (rw (now-there, sym root-is) (λ p q. let same : g ≡ h = omega (arith, p, full-is) in other (ap key (sym same) ∙ q)))
+            (λ b. rw (as-was u (λ q. omega (arith, q, b))) (s .differ u g b));
+        stays = λ j a.
+            ⊎-elim
+            (λ (q : before t ≡ j). inr (record { place = left; below = omega arith; is = now-there ∙ is ∙ q }))
+            (λ (b : Hit before t j). ⊎-elim (λ p. inl p) (λ c. inr (hit-set list left i l c)) (s .stays j b))
+            (hit-split a);
+      }
+    where
+      now-there : at (set list left i) left ≡ i
+      now-there = getD-set-same list left i 0 l
+
+      as-was : (u : ℕ) → (u ≡ left → ⊥) → at (set list left i) u ≡ at list u
+      as-was u q = getD-set-other list left u i 0 q
+
+      lower : (u : ℕ) → u < left → at list u < before t
+      lower u k = let b = s .leaves u k in rw (sym (b .is)) (up (b .place) (b .below))
+
+      by-end : (P : ℕ → Type 0) (u : ℕ) → u < left + 1 → P left → (u < left → P u) → P u
+      by-end P u k a b = ⊎-elim (λ (q : u ≡ left). rw q a) b (eq-or-lt-of-le (omega arith))
+
+  -- two that have one key are both left
+  both-left : (i j : ℕ) → Hit before t i → Hit before t j → j < i → key j ≡ key i → Hit (at list) left i × Hit (at list) left j
+  both-left i j a b l e = go (s .stays i a) (s .stays j b)
+    where
+      go : (getD places (root (key i)) 0 ≡ suc i) ⊎ Hit (at list) left i → (getD places (root (key j)) 0 ≡ suc j) ⊎ Hit (at list) left j
+          → Hit (at list) left i × Hit (at list) left j
+      go (inl p) (inl q) = absurd (omega (arith, p, q, ap (λ k. getD places (root k) 0) e, l))
+      go (inl p) (inr q) = absurd (s .differ (q .place) i (q .below) (ap (λ k. getD places (root (key k)) 0) (q .is) ∙ ap (λ k. getD places (root k) 0) e ∙ p) (sym e ∙ sym (ap key (q .is))))
+      go (inr p) (inl q) = absurd (s .differ (p .place) j (p .below) (ap (λ k. getD places (root (key k)) 0) (p .is) ∙ sym (ap (λ k. getD places (root k) 0) e) ∙ q) (e ∙ sym (ap key (p .is))))
+      go (inr p) (inr q) = (p, q)
+
+  was-listed : {m i : ℕ} → t ≤ m → Hit (at list) left i → Hit before m i
+  was-listed w a = let b = s .leaves (a .place) (a .below) in record { place = b .place; below = omega (arith, b .below); is = b .is ∙ a .is }
+
+  -- what is right for those that are left
+  pub sifted : {n m found : ℕ} → t ≤ m → found ≤ n → (found < n → Repeats key before m found)
+      → ((u : ℕ) → t ≤ u → u < m → found ≤ before u)
+      → ((u v : ℕ) → u < v → v < m → before u < before v) → ((u : ℕ) → u < m → before u < n)
+      → Sifts key n m before list found left
+  sifted {n} {m} {found} within few repeats later up below =
+      record {
+        fewer = omega (arith, s .fewer);
+        listed = record {
+          below = record { index = λ u h. let b = s .leaves u h in rw (sym (b .is)) (below (b .place) (omega (arith, b .below))) };
+          rising = s .rising;
+        };
+        answers = λ o w.
+            record {
+              within = le-trans (least-below-second o found) few;
+              repeats = by-least o w (leb o found);
+              lowest = λ j k a b l e. lowest-by o w j k a b l e (decLt (b .place) t);
+            };
+      }
+    where
+      by-least : (o : ℕ) → FirstOf key (at list) n left o → (b : Bool) → cond b o found < n → Repeats key before m (cond b o found)
+      by-least o w true h =
+          let r = w .repeats h in
+          record { listed = was-listed within (r .listed); other = r .other; listed-too = was-listed within (r .listed-too); lower = r .lower; same = r .same }
+      by-least o w false h = repeats h
+
+      lowest-by : (o : ℕ) → FirstOf key (at list) n left o → (j k : ℕ) (a : Hit before m j) (b : Hit before m k) → j < k → key j ≡ key k
+          → Dec (b .place < t) → least o found ≤ k
+      lowest-by o w j k a b l e (no h) = le-trans (least-below-second o found) (rw (b .is) at (later (b .place) (omega arith) (b .below)))
+      lowest-by o w j k a b l e (yes h) = both (decLt (a .place) t)
+        where
+          both : Dec (a .place < t) → least o found ≤ k
+          both (yes g) =
+              let c = both-left k j (record { place = b .place; below = h; is = b .is }) (record { place = a .place; below = g; is = a .is }) l e in
+              le-trans (least-below-first o found) (w .lowest j k (c .1) (c .0) l e)
+          both (no g) = absurd (omega (arith, up (b .place) (a .place) (omega arith) (a .below), a .is, b .is, l))
+
+  module _ {n m : ℕ} (up : (u v : ℕ) → u < v → v < m → before u < before v) (below : (u : ℕ) → u < m → before u < n) where
+    -- the record that is looked at has the key of one that stays
+    pub sifted-found : (a h : ℕ) {i : ℕ} → t < m → i ≡ before t → getD places a 0 ≡ suc h → key h ≡ key i → Sifts key n m before list i left
+    sifted-found a h {i} l is held-is same =
+        sifted
+        (omega arith)
+        (let b = below t l in omega (arith, is))
+        (λ k.
+        let b = s .held a h held-is in
+        record {
+          listed = record { place = t; below = l; is = sym is };
+          other = h;
+          listed-too = record { place = b .place; below = omega (arith, b .below); is = b .is };
+          lower = let c = up (b .place) t (b .below) l in omega (arith, c, b .is, is);
+          same = same;
+        })
+        (λ u k b.
+        ⊎-elim (λ (q : t ≡ u). omega (arith, ap before q, is)) (λ (q : t < u). let c = up t u q b in omega (arith, is)) (eq-or-lt-of-le k))
+        up
+        below
+
+    -- all records are looked at
+    pub sifted-all : t ≤ m → m ≤ t → Sifts key n m before list n left
+    sifted-all l k = sifted l (omega arith) (λ h. absurd (omega arith)) (λ u a b. absurd (omega arith)) up below
+
+-- ---- sifted anew
+
+least-least : (o a b : ℕ) → least (least o a) b ≡ least o (least a b)
+least-least o a b = go (leb o a) (leb a b) refl refl
+  where
+    go : (x y : Bool) → leb o a ≡ x → leb a b ≡ y → least (cond x o a) b ≡ least o (cond y a b)
+    go true true p q = let h = leb-true o a p in let k = leb-true a b q in sym (least-first o b (omega arith)) ∙ least-first o a h
+    go true false p q = refl
+    go false true p q = let h = leb-false o a p in let k = leb-true a b q in sym (least-first a b k) ∙ least-second o a (omega arith)
+    go false false p q = let h = leb-false o a p in let k = leb-false a b q in sym (least-second a b (omega arith)) ∙ least-second o b (omega arith)
+
+pub sifts-sifts : {key before : ℕ → ℕ} {n m k left a b : ℕ} {mid after : List ℕ}
+    → Sifts key n m before mid a k → Sifts key n k (at mid) after b left → Sifts key n m before after (least b a) left
+sifts-sifts {left = left} {a = a} {b = b} s r =
+    record { fewer = omega (arith, s .fewer, r .fewer); listed = r .listed; answers = λ o w. rw (sym (least-least o b a)) (s .answers (least o b) (r .answers o w)) }
+
+-- ---- all records
+
+hit-same : {f g : ℕ → ℕ} {m i : ℕ} → ((u : ℕ) → u < m → f u ≡ g u) → Hit f m i → Hit g m i
+hit-same e a = record { place = a .place; below = a .below; is = sym (e (a .place) (a .below)) ∙ a .is }
+
+first-same : {key f g : ℕ → ℕ} {n m o : ℕ} → ((u : ℕ) → u < m → f u ≡ g u) → FirstOf key f n m o → FirstOf key g n m o
+first-same e w =
+    record {
+      within = w .within;
+      repeats = λ h.
+          let r = w .repeats h in
+          record { listed = hit-same e (r .listed); other = r .other; listed-too = hit-same e (r .listed-too); lower = r .lower; same = r .same };
+      lowest = λ j k a b. w .lowest j k (hit-same (λ u h. sym (e u h)) a) (hit-same (λ u h. sym (e u h)) b);
+    }
+
+pub sifts-all : {key : ℕ → ℕ} {n found left : ℕ} {list after : List ℕ} → Filled 0 (λ (u : ℕ). u) n list → Sifts key n n (at list) after found left
+    → Sifts key n n (λ (u : ℕ). u) after found left
+sifts-all f s = record { fewer = s .fewer; listed = s .listed; answers = λ o w. first-same (f .entry) (s .answers o w) }

@@ -1,0 +1,56 @@
+-- Lists of records' indices, and the first of the listed records that has the key of an earlier one. No statement of what the code answers
+-- rests on this.
+use Prim.Native.Nat.{ℕ, _≤_, _<_}
+use mathlib.Core.Path.{_≡_}
+use mathlib.Core.Bool.{Bool, true}
+use mathlib.Core.List.{List}
+use lib.ListN.{getD}
+
+-- the entry at a place
+abbrev pub at : List ℕ → ℕ → ℕ
+at list u = getD list u 0
+
+-- i is one of f 0 .. f (m - 1)
+pub record Hit (f : ℕ → ℕ) (m i : ℕ) : Type 0 where
+  pub place : ℕ
+  pub below : place < m
+  pub is : f place ≡ i
+
+-- and so is a lower index with the same key
+pub record Repeats (key f : ℕ → ℕ) (m i : ℕ) : Type 0 where
+  pub listed : Hit f m i
+  pub other : ℕ
+  pub listed-too : Hit f m other
+  pub lower : other < i
+  pub same : key other ≡ key i
+
+-- i is the lowest index that does so, or n where none does
+pub record FirstOf (key f : ℕ → ℕ) (n m i : ℕ) : Type 0 where
+  pub within : i ≤ n
+  pub repeats : i < n → Repeats key f m i
+  pub lowest : (j k : ℕ) → Hit f m j → Hit f m k → j < k → key j ≡ key k → i ≤ k
+
+-- m indices below n
+pub record Below (n m : ℕ) (list : List ℕ) : Type 0 where
+  pub index : (u : ℕ) → u < m → at list u < n
+
+-- each above the one before
+pub record Listed (n m : ℕ) (list : List ℕ) : Type 0 where
+  pub below : Below n m list
+  pub rising : (u v : ℕ) → u < v → v < m → at list u < at list v
+
+-- the first m entries of a list pass a test
+pub record All (p : ℕ → Bool) (m : ℕ) (list : List ℕ) : Type 0 where
+  pub passes : (u : ℕ) → u < m → p (at list u) ≡ true
+
+-- an index is put at a place of a list: what passes a test is what did, or the index
+abbrev pub Puts : ℕ → ℕ → List ℕ → List ℕ → Type 0
+Puts m i before after = (p : ℕ → Bool) → p i ≡ true → All p m before → All p m after
+
+-- indices of a list are put into another
+abbrev pub Moves : ℕ → List ℕ → List ℕ → List ℕ → Type 0
+Moves m from before after = (p : ℕ → Bool) → All p m from → All p m before → All p m after
+
+-- indices are moved between two lists
+abbrev pub Swaps : ℕ → List ℕ → List ℕ → List ℕ → List ℕ → Type 0
+Swaps m a b a′ b′ = (p : ℕ → Bool) → All p m a → All p m b → All p m a′ × All p m b′

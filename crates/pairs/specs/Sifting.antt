@@ -1,0 +1,62 @@
+-- Sifting a list, and putting it in order. No statement of what the code answers rests on this.
+use Prim.Native.Nat.{ℕ, suc, _*_, _/_, _%_, _≤_, _<_}
+use mathlib.Core.Path.{_≡_}
+use mathlib.Core.Bool.{cond}
+use mathlib.Core.List.{List}
+use lib.Dec.{ltb}
+use lib.ListN.{length}
+use Rattle.numbers.specs.declared.Found.{Found}
+use Rattle.numbers.specs.declared.Found.the-variants.{At, Nothing}
+use Rattle.pairs.specs.Keys.{word, least}
+use Rattle.pairs.specs.Walks.{scattered}
+use Rattle.pairs.specs.Indices.{at, FirstOf, Listed}
+use Rattle.pairs.specs.declared.order.Tried.{Tried}
+use Rattle.pairs.specs.declared.order.Tried.the-variants.{Answered, Unanswered}
+
+-- where a key has its place among so many
+unfoldable pub placeOf : ℕ → ℕ → ℕ → ℕ
+placeOf f places x = scattered x * (f % word) % word * places / word
+
+-- of m listed records some are left in the list; the first of these that repeats an earlier one, or what was found, whichever is lower, is
+-- the first of all
+pub record Sifts (key : ℕ → ℕ) (n m : ℕ) (before : ℕ → ℕ) (after : List ℕ) (found left : ℕ) : Type 0 where
+  pub fewer : left ≤ m
+  pub listed : Listed n left after
+  pub answers : (o : ℕ) → FirstOf key (at after) n left o → FirstOf key before n m (least o found)
+
+-- ten bits
+abbrev pub digits : ℕ
+digits = 1_024
+
+-- counts for four digits, which are at most m
+pub record Counts (m : ℕ) (list : List ℕ) : Type 0 where
+  pub long : 4 * digits ≤ length list
+  pub counted : (u : ℕ) → at list u ≤ m
+
+-- index j may stand after index i
+pub record After (key : ℕ → ℕ) (i j : ℕ) : Type 0 where
+  pub up : key i ≤ key j
+  pub rising : key i ≡ key j → i < j
+
+-- i stands right after an index with the same key
+pub record Neighbour (key f : ℕ → ℕ) (t i : ℕ) : Type 0 where
+  pub place : ℕ
+  pub below : suc place < t
+  pub is : f (suc place) ≡ i
+  pub same : key (f place) ≡ key (f (suc place))
+
+-- t indices are in order, and the lowest that stands right after one with the same key is found, or n
+pub record Ordered (key f : ℕ → ℕ) (n t found : ℕ) : Type 0 where
+  pub next : (u : ℕ) → suc u < t → After key (f u) (f (suc u))
+  pub within : found ≤ n
+  pub neighbour : found < n → Neighbour key f t found
+  pub lowest : (u : ℕ) → suc u < t → key (f u) ≡ key (f (suc u)) → found ≤ f (suc u)
+
+-- the first of n records, from its index or n
+abbrev pub foundAt : ℕ → ℕ → Found
+foundAt i n = cond (ltb i n) (At i) Nothing
+
+-- a search that answers answers this
+abbrev pub Tries : (ℕ → Type 0) → Tried → Type 0
+Tries P (Answered i) = P i
+Tries P Unanswered = Unit {0}
