@@ -15,7 +15,7 @@ use Rattle.numbers.specs.declared.Found.the-variants.{At, Nothing}
 use Rattle.numbers.proofs.Searches.{clear-first, first-here, some-at, clear-some}
 use Rattle.pairs.specs.Keys.{least}
 use Rattle.pairs.specs.Walks.{Zeros}
-use Rattle.pairs.specs.Indices.{at, Hit, Repeats, FirstOf, Below, Listed, All, Puts}
+use Rattle.pairs.specs.Indices.{at, Hit, Repeats, FirstOf, Below, All, Puts}
 use Rattle.pairs.specs.Sifting.{digits, Counts, Tries, foundAt}
 use Rattle.pairs.specs.declared.order.Tried.{Tried}
 use Rattle.pairs.specs.declared.order.Tried.the-variants.{Answered, Unanswered}
@@ -44,10 +44,6 @@ all-below n {m} {list} a = record { index = λ u h. ltb-true (at list u) n (a .p
 -- a list and its copy pass the same tests
 pub copied : {p : ℕ → Bool} {m : ℕ} {a b : List ℕ} → Filled 0 (at a) m b → All p m a → All p m b
 copied e h = record { passes = λ u k. rw (e .entry u k) (h .passes u k) }
-
--- all indices
-pub all-listed : {n : ℕ} {list : List ℕ} → Filled 0 (λ (u : ℕ). u) n list → Listed n n list
-all-listed f = record { below = record { index = λ u h. rw (f .entry u h) h }; rising = λ u v h k. rw (f .entry u (omega arith), f .entry v k) h }
 
 -- an answer of a kind is one of another
 pub tries-too : {P Q : ℕ → Type 0} → ((i : ℕ) → P i → Q i) → (r : Tried) → Tries P r → Tries Q r

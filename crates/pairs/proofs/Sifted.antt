@@ -13,16 +13,15 @@ use native.Mathlib.Numerals.{add-one}
 use lib.ListN.{length, getD, set}
 use lib.Seq.{getD-set-same, getD-set-other}
 use borrow.Author.Tests.{leb-true, leb-false}
-use Rattle.numbers.specs.Folds.{Filled}
 use Rattle.pairs.specs.Keys.{least}
-use Rattle.pairs.specs.Indices.{at, Hit, Repeats, FirstOf, Listed}
+use Rattle.pairs.specs.Indices.{at, Hit, Repeats, FirstOf, Rising, indexAt}
 use Rattle.pairs.specs.Sifting.{Sifts}
 use Rattle.pairs.proofs.Least.{least-first, least-second, least-below-first, least-below-second}
 use Rattle.pairs.proofs.Trees.{after-set}
 
-pub record Sifting (key root before : ℕ → ℕ) (places after : List ℕ) (t left : ℕ) : Type 0 where
+pub record Sifting (key root before : ℕ → ℕ) (listed : Bool) (places after : List ℕ) (t left : ℕ) : Type 0 where
   pub fewer : left ≤ t
-  pub tail : (u : ℕ) → t ≤ u → at after u ≡ before u
+  pub tail : (u : ℕ) → t ≤ u → indexAt listed after u ≡ before u
   pub held : (a h : ℕ) → getD places a 0 ≡ suc h → Hit before t h
   pub leaves : (u : ℕ) → u < left → Hit before t (at after u)
   pub rising : (u v : ℕ) → u < v → v < left → at after u < at after v
@@ -32,12 +31,12 @@ pub record Sifting (key root before : ℕ → ℕ) (places after : List ℕ) (t 
 
 -- ---- lists that are not sifted yet
 
-module _ {key root before : ℕ → ℕ} {places list : List ℕ} where
-  pub sifting-start : ((a : ℕ) → getD places a 0 ≡ 0) → ((u : ℕ) → at list u ≡ before u) → Sifting key root before places list 0 0
-  sifting-start z e =
+module _ {key root : ℕ → ℕ} {listed : Bool} {places list : List ℕ} where
+  pub sifting-start : ((a : ℕ) → getD places a 0 ≡ 0) → Sifting key root (indexAt listed list) listed places list 0 0
+  sifting-start z =
       record {
         fewer = omega arith;
-        tail = λ u h. e u;
+        tail = λ u h. refl;
         held = λ a h p. absurd (omega (arith, z a, p));
         leaves = λ u h. absurd (omega arith);
         rising = λ u v h k. absurd (omega arith);
@@ -69,10 +68,10 @@ hit-set list k x {i} l a =
       is = after-set (λ (z : ℕ). z ≡ i) list k (a .place) x 0 l (λ e. absurd (omega (arith, a .below, e))) (λ e. a .is);
     }
 
-module _ {key root before : ℕ → ℕ} {places list : List ℕ} {t left : ℕ} (s : Sifting key root before places list t left) where
+module _ {key root before : ℕ → ℕ} {listed : Bool} {places list : List ℕ} {t left : ℕ} (s : Sifting key root before listed places list t left) where
   -- the record that is looked at has its place for itself, and stays
   pub stay : {i e : ℕ} → i ≡ before t → e ≡ root (key i) → getD places e 0 ≡ 0 → e < length places
-      → Sifting key root before (set places e (i + 1)) list (t + 1) left
+      → Sifting key root before listed (set places e (i + 1)) list (t + 1) left
   stay {i} {e} is root-is empty l =
       record {
         fewer = omega (arith, s .fewer);
@@ -106,11 +105,11 @@ module _ {key root before : ℕ → ℕ} {places list : List ℕ} {t left : ℕ}
 
   -- it has found another key, and is left
   pub leave : {i e h : ℕ} → i ≡ before t → e ≡ root (key i) → getD places e 0 ≡ suc h → (key h ≡ key i → ⊥) → left < length list
-      → ((u : ℕ) → u < t → before u < before t) → Sifting key root before places (set list left i) (t + 1) (left + 1)
+      → ((u : ℕ) → u < t → before u < before t) → Sifting key root before listed places (set list left i) (t + 1) (left + 1)
   leave {i} {e} {h} is root-is full-is other l up =
       record {
         fewer = omega (arith, s .fewer);
-        tail = λ u k. as-was u (λ q. omega (arith, s .fewer, q)) ∙ s .tail u (omega arith);
+        tail = λ u k. beyond listed u (λ q. omega (arith, s .fewer, q)) ∙ s .tail u (omega arith);
         held = λ a g p. hit-more (s .held a g p);
         leaves = λ u k. by-end (λ v. Hit before (t + 1) (at (set list left i) v)) u k
             (rw (now-there, is) (hit-last before t))
@@ -138,6 +137,10 @@ module _ {key root before : ℕ → ℕ} {places list : List ℕ} {t left : ℕ}
 
       as-was : (u : ℕ) → (u ≡ left → ⊥) → at (set list left i) u ≡ at list u
       as-was u q = getD-set-other list left u i 0 q
+
+      beyond : (b : Bool) (u : ℕ) → (u ≡ left → ⊥) → indexAt b (set list left i) u ≡ indexAt b list u
+      beyond true u q = as-was u q
+      beyond false u q = refl
 
       lower : (u : ℕ) → u < left → at list u < before t
       lower u k = let b = s .leaves u k in rw (sym (b .is)) (up (b .place) (b .below))
@@ -168,7 +171,7 @@ module _ {key root before : ℕ → ℕ} {places list : List ℕ} {t left : ℕ}
       record {
         fewer = omega (arith, s .fewer);
         listed = record {
-          below = record { index = λ u h. let b = s .leaves u h in rw (sym (b .is)) (below (b .place) (omega (arith, b .below))) };
+          below = λ u h. let b = s .leaves u h in rw (sym (b .is)) (below (b .place) (omega (arith, b .below)));
           rising = s .rising;
         };
         answers = λ o w.
@@ -236,22 +239,3 @@ pub sifts-sifts : {key before : ℕ → ℕ} {n m k left a b : ℕ} {mid after :
     → Sifts key n m before mid a k → Sifts key n k (at mid) after b left → Sifts key n m before after (least b a) left
 sifts-sifts {left = left} {a = a} {b = b} s r =
     record { fewer = omega (arith, s .fewer, r .fewer); listed = r .listed; answers = λ o w. rw (sym (least-least o b a)) (s .answers (least o b) (r .answers o w)) }
-
--- ---- all records
-
-hit-same : {f g : ℕ → ℕ} {m i : ℕ} → ((u : ℕ) → u < m → f u ≡ g u) → Hit f m i → Hit g m i
-hit-same e a = record { place = a .place; below = a .below; is = sym (e (a .place) (a .below)) ∙ a .is }
-
-first-same : {key f g : ℕ → ℕ} {n m o : ℕ} → ((u : ℕ) → u < m → f u ≡ g u) → FirstOf key f n m o → FirstOf key g n m o
-first-same e w =
-    record {
-      within = w .within;
-      repeats = λ h.
-          let r = w .repeats h in
-          record { listed = hit-same e (r .listed); other = r .other; listed-too = hit-same e (r .listed-too); lower = r .lower; same = r .same };
-      lowest = λ j k a b. w .lowest j k (hit-same (λ u h. sym (e u h)) a) (hit-same (λ u h. sym (e u h)) b);
-    }
-
-pub sifts-all : {key : ℕ → ℕ} {n found left : ℕ} {list after : List ℕ} → Filled 0 (λ (u : ℕ). u) n list → Sifts key n n (at list) after found left
-    → Sifts key n n (λ (u : ℕ). u) after found left
-sifts-all f s = record { fewer = s .fewer; listed = s .listed; answers = λ o w. first-same (f .entry) (s .answers o w) }

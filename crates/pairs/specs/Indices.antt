@@ -2,7 +2,7 @@
 -- rests on this.
 use Prim.Native.Nat.{ℕ, _≤_, _<_}
 use mathlib.Core.Path.{_≡_}
-use mathlib.Core.Bool.{Bool, true}
+use mathlib.Core.Bool.{Bool, true, cond}
 use mathlib.Core.List.{List}
 use lib.ListN.{getD}
 
@@ -34,10 +34,14 @@ pub record FirstOf (key f : ℕ → ℕ) (n m i : ℕ) : Type 0 where
 pub record Below (n m : ℕ) (list : List ℕ) : Type 0 where
   pub index : (u : ℕ) → u < m → at list u < n
 
--- each above the one before
-pub record Listed (n m : ℕ) (list : List ℕ) : Type 0 where
-  pub below : Below n m list
-  pub rising : (u v : ℕ) → u < v → v < m → at list u < at list v
+-- m indices below n, each above the one before
+pub record Rising (n m : ℕ) (f : ℕ → ℕ) : Type 0 where
+  pub below : (u : ℕ) → u < m → f u < n
+  pub rising : (u v : ℕ) → u < v → v < m → f u < f v
+
+-- the entry of a list, or without one the index itself
+abbrev pub indexAt : Bool → List ℕ → ℕ → ℕ
+indexAt listed list u = cond listed (at list u) u
 
 -- the first m entries of a list pass a test
 pub record All (p : ℕ → Bool) (m : ℕ) (list : List ℕ) : Type 0 where

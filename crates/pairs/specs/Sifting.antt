@@ -1,5 +1,5 @@
 -- Sifting a list, and putting it in order. No statement of what the code answers rests on this.
-use Prim.Native.Nat.{ℕ, suc, _*_, _/_, _%_, _≤_, _<_}
+use Prim.Native.Nat.{ℕ, suc, _+_, _*_, _/_, _%_, _≤_, _<_}
 use mathlib.Core.Path.{_≡_}
 use mathlib.Core.Bool.{cond}
 use mathlib.Core.List.{List}
@@ -8,20 +8,19 @@ use lib.ListN.{length}
 use Rattle.numbers.specs.declared.Found.{Found}
 use Rattle.numbers.specs.declared.Found.the-variants.{At, Nothing}
 use Rattle.pairs.specs.Keys.{word, least}
-use Rattle.pairs.specs.Walks.{scattered}
-use Rattle.pairs.specs.Indices.{at, FirstOf, Listed}
+use Rattle.pairs.specs.Indices.{at, FirstOf, Rising}
 use Rattle.pairs.specs.declared.order.Tried.{Tried}
 use Rattle.pairs.specs.declared.order.Tried.the-variants.{Answered, Unanswered}
 
 -- where a key has its place among so many
-unfoldable pub placeOf : ℕ → ℕ → ℕ → ℕ
-placeOf f places x = scattered x * (f % word) % word * places / word
+unfoldable pub placeOf : ℕ → ℕ → ℕ → ℕ → ℕ
+placeOf lower upper places x = (x % word * lower % word + x / word * upper % word) % word * places / word
 
 -- of m listed records some are left in the list; the first of these that repeats an earlier one, or what was found, whichever is lower, is
 -- the first of all
 pub record Sifts (key : ℕ → ℕ) (n m : ℕ) (before : ℕ → ℕ) (after : List ℕ) (found left : ℕ) : Type 0 where
   pub fewer : left ≤ m
-  pub listed : Listed n left after
+  pub listed : Rising n left (at after)
   pub answers : (o : ℕ) → FirstOf key (at after) n left o → FirstOf key before n m (least o found)
 
 -- ten bits

@@ -9,7 +9,7 @@ use Rattle.pairs.specs.declared.keys.Key.{Key}
 
 -- 32 bits of a key: its lower half times an odd number and its upper half times another, added
 unfoldable pub scattered : ℕ → ℕ
-scattered x = (x % word * 2_654_435_761 % word + x / word * 1_973_900_851 % word) % word
+scattered x = (x % word * 2_654_435_761 % word + x / word * 2_246_822_519 % word) % word
 
 -- the highest of them choose one of the roots
 unfoldable pub rootOf : ℕ → ℕ → ℕ

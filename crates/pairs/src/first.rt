@@ -21,7 +21,7 @@ ghost use Rattle.pairs.specs.Sifting.{foundAt, Tries};
 // So many records are a handful: an array would not be worth while.
 const HANDFUL: usize = 8;
 
-// Arrays for at most SMALL, SHORT, MIDDLE and MOST records: a short list pays for no long array.
+// Arrays for at most SMALL, SHORT, MIDDLE, LARGE and MOST records: a short list pays for no long array.
 const SMALL: usize = 32;
 
 const SHORT: usize = 128;
@@ -181,21 +181,21 @@ fn tried_middle(records: &[u8], size: usize, key: Key, n: usize) -> Tried
     first_middle(records, size, key, n)
 }
 
-// With arrays for at most MIDDLE, or with longer ones for a longer list, and where some records are left.
-fn first_by_middle(records: &[u8], size: usize, key: Key, n: usize) -> Found
-    requires { ⌜ Keyed key size (now records) n ⌝ }
-    ensures { λ r. ⌜ r ≡ first (repeating (sameKeyIn key size (now (records .entry)))) n ⌝ }
+// At most SMALL with arrays for these, and where some records are left of them, or there are more, with longer ones.
+fn tried_small(records: &[u8], size: usize, key: Key, n: usize) -> Tried
+    requires { ⌜ (Keyed key size (now records) n) × (n ≤ 512) ⌝ }
+    ensures { λ r. ⌜ Tries (FirstOf (keyAt key size (now (records .entry))) (λ u. u) n n) r ⌝ }
 {
-    if MIDDLE < n {
-        return first_by_most(records, size, key, n);
+    if SMALL < n {
+        return tried_middle(records, size, key, n);
     }
-    match tried_middle(records, size, key, n) {
+    match first_small(records, size, key, n) {
         Tried::Answered(i) => {
-            return found_at(i, n);
+            return Tried::Answered(i);
         }
         Tried::Unanswered => {}
     }
-    first_by_most(records, size, key, n)
+    tried_middle(records, size, key, n)
 }
 
 // The first record that has the key of an earlier one. Records after the first MOST are not looked at, and none where a record is shorter
@@ -207,14 +207,14 @@ pub fn first_repeated(records: &[u8], size: usize, key: Key) -> Found
     if n <= HANDFUL {
         return first_by_pairs(records, size, key, n);
     }
-    if SMALL < n {
-        return first_by_middle(records, size, key, n);
+    if MIDDLE < n {
+        return first_by_most(records, size, key, n);
     }
-    match first_small(records, size, key, n) {
+    match tried_small(records, size, key, n) {
         Tried::Answered(i) => {
             return found_at(i, n);
         }
         Tried::Unanswered => {}
     }
-    first_by_middle(records, size, key, n)
+    first_by_most(records, size, key, n)
 }

@@ -2,21 +2,8 @@
 ghost use Prim.Native.Nat.{_≤_};
 ghost use lib.ListN.{length};
 ghost use Rattle.numbers.specs.Folds.{Filled};
-ghost use Rattle.pairs.specs.Keys.{most};
 ghost use Rattle.pairs.specs.Walks.{Zeros};
 ghost use Rattle.pairs.specs.Indices.{at};
-
-// Lists n indices.
-pub(crate) fn list_all(list: &mut [u16], n: usize)
-    requires { ⌜ (n ≤ length (now list)) × (n ≤ most) ⌝ }
-    ensures { λ _. ⌜ Filled 0 (λ u. u) n (now (list .exit)) ⌝ }
-{
-    let mut i = 0;
-    while i < n {
-        list[i] = i as u16;
-        i += 1;
-    }
-}
 
 // Copies m entries.
 pub(crate) fn copy(from: &[u16], to: &mut [u16], m: usize)

@@ -7,17 +7,20 @@ use crate::keys::key_at;
 use crate::keys::smaller;
 use crate::keys::wide;
 use crate::lists::clear;
-use crate::lists::list_all;
-use crate::walks::scatter;
 ghost use mathlib.Core.Path.{_≡_};
 ghost use Prim.Native.Nat.{_*_, _≤_, _<_};
 ghost use lib.ListN.{length};
-ghost use Rattle.pairs.specs.Keys.{keyAt, most};
+ghost use Rattle.pairs.specs.Keys.{keyAt, most, word};
 ghost use Rattle.pairs.specs.Walks.{Keyed, Zeros};
-ghost use Rattle.pairs.specs.Indices.{at, Listed};
+ghost use Rattle.pairs.specs.Indices.{Rising, indexAt};
 ghost use Rattle.pairs.specs.Sifting.{placeOf, Sifts};
 
-// An odd factor, by which a list is sifted anew.
+// Two odd factors, of a key's lower half and of its upper half. With these, records in which every account holds every mark leave few.
+const LOWER: u64 = 2_654_435_761;
+
+const UPPER: u64 = 1_973_900_851;
+
+// An odd factor, by which they change where a list is sifted anew.
 const ANEW: u64 = 2_246_822_519;
 
 // The first record that repeats another, or the number of all, and how many are left.
@@ -26,35 +29,47 @@ pub struct Sifted {
     pub left: usize,
 }
 
-// The place of a key among so many.
-fn place_of(x: u64, f: u64, places: usize) -> usize
-    requires { ⌜ (0 < places) × (places ≤ 4 * most) ⌝ }
-    ensures { λ r. ⌜ (r ≡ placeOf f places x) × (r < places) ⌝ }
+// The place of a key among so many: of its lower half times a number and its upper half times another, the highest of 32 bits choose it.
+fn place_of(x: u64, lower: u64, upper: u64, places: usize) -> usize
+    requires { ⌜ (0 < places) × (places ≤ 4 * most) × (lower < word) × (upper < word) ⌝ }
+    ensures { λ r. ⌜ (r ≡ placeOf lower upper places x) × (r < places) ⌝ }
 {
-    (scatter(x) * (f % WORD) % WORD * (places as u64) / WORD) as usize
+    let low = x % WORD * lower % WORD;
+    let high = x / WORD * upper % WORD;
+    ((low + high) % WORD * (places as u64) / WORD) as usize
 }
 
-// Sifts m listed records of n, by places that are empty.
+// An entry of a list, or without one the index itself.
+fn index_at(list: &[u16], listed: bool, t: usize) -> usize
+    requires { ⌜ (t < length (now list)) × (t ≤ most) ⌝ }
+    ensures { λ r. ⌜ r ≡ indexAt listed (now (list .entry)) t ⌝ }
+{
+    if listed { wide(list[t]) } else { t }
+}
+
+// Sifts m records of n, by places that are empty: those in a list, or the first without one. The list then has those that are left.
 fn sift(
     records: &[u8],
     size: usize,
     key: Key,
     n: usize,
     list: &mut [u16],
+    listed: bool,
     m: usize,
-    f: u64,
+    lower: u64,
+    upper: u64,
     place: &mut [u16],
 ) -> Sifted
-    requires { ⌜ (Keyed key size (now records) n) × (Listed n m (now list)) × (m ≤ length (now list)) × (0 < length (now place))
-        × (length (now place) ≤ 4 * most) × Zeros (now place) ⌝ }
-    ensures { λ r. ⌜ Sifts (keyAt key size (now (records .entry))) n m (at (now (list .entry))) (now (list .exit)) (r .found) (r .left) ⌝ }
+    requires { ⌜ (Keyed key size (now records) n) × (Rising n m (indexAt listed (now list))) × (m ≤ length (now list)) × (m ≤ most) × (0 < length (now place))
+        × (length (now place) ≤ 4 * most) × (Zeros (now place)) × (lower < word) × (upper < word) ⌝ }
+    ensures { λ r. ⌜ Sifts (keyAt key size (now (records .entry))) n m (indexAt listed (now (list .entry))) (now (list .exit)) (r .found) (r .left) ⌝ }
 {
     let mut left = 0;
     let mut t = 0;
     while t < m {
-        let i = wide(list[t]);
+        let i = index_at(list, listed, t);
         let x = key_at(records, size, key, i);
-        let at = place_of(x, f, place.len());
+        let at = place_of(x, lower, upper, place.len());
         let held = wide(place[at]);
         t += 1;
         if held == 0 {
@@ -70,14 +85,50 @@ fn sift(
     Sifted { found: n, left }
 }
 
-// Whether so many that are left of n are worth sifting anew. No answer depends on it.
-fn worth_while(left: usize, n: usize) -> bool
+// Whether so many that are left of n are few. No answer depends on it.
+fn are_few(left: usize, n: usize) -> bool
     ensures { λ _. ⊤ₛ }
 {
-    (0 < left) & (left <= n / 4 + 32)
+    left <= n / 4 + 32
 }
 
-// Sifts n records. Where some are left, and not much more than a quarter, they are sifted anew, at most four times.
+// Sifts n records, and where not few are left these anew.
+fn sift_twice(
+    records: &[u8],
+    size: usize,
+    key: Key,
+    n: usize,
+    list: &mut [u16],
+    place: &mut [u16],
+) -> Sifted
+    requires { ⌜ (Keyed key size (now records) n) × (n ≤ length (now list)) × (0 < length (now place)) × (length (now place) ≤ 4 * most)
+        × Zeros (now place) ⌝ }
+    ensures { λ r. ⌜ Sifts (keyAt key size (now (records .entry))) n n (λ u. u) (now (list .exit)) (r .found) (r .left) ⌝ }
+{
+    let once = sift(records, size, key, n, list, false, n, LOWER, UPPER, place);
+    if are_few(once.left, n) {
+        return once;
+    }
+    clear(place);
+    let again = sift(
+        records,
+        size,
+        key,
+        n,
+        list,
+        true,
+        once.left,
+        ANEW,
+        LOWER,
+        place,
+    );
+    Sifted {
+        found: smaller(again.found, once.found),
+        left: again.left,
+    }
+}
+
+// Sifts n records. Where few are left, they are sifted anew, at most four times.
 pub(crate) fn sift_all(
     records: &[u8],
     size: usize,
@@ -88,24 +139,25 @@ pub(crate) fn sift_all(
     other: &mut [u16],
 ) -> Sifted
     requires { ⌜ (Keyed key size (now records) n) × (n ≤ length (now list)) × (0 < length (now place)) × (length (now place) ≤ 4 * most)
-        × Zeros (now place) × (0 < length (now other)) × (length (now other) ≤ 4 * most) ⌝ }
+        × (Zeros (now place)) × (0 < length (now other)) × (length (now other) ≤ 4 * most) ⌝ }
     ensures { λ r. ⌜ Sifts (keyAt key size (now (records .entry))) n n (λ u. u) (now (list .exit)) (r .found) (r .left) ⌝ }
 {
-    list_all(list, n);
-    let once = sift(records, size, key, n, list, n, 1, place);
-    let mut found = once.found;
-    let mut left = once.left;
-    let mut f = ANEW;
+    let s = sift_twice(records, size, key, n, list, place);
+    let mut found = s.found;
+    let mut left = s.left;
+    let mut lower = LOWER;
+    let mut upper = UPPER;
     let mut turns = 0usize;
     while turns < 4 {
-        if !worth_while(left, n) {
+        if (left == 0) | !are_few(left, n) {
             return Sifted { found, left };
         }
         clear(other);
-        let again = sift(records, size, key, n, list, left, f, other);
+        lower = lower * ANEW % WORD;
+        upper = upper * LOWER % WORD;
+        let again = sift(records, size, key, n, list, true, left, lower, upper, other);
         found = smaller(again.found, found);
         left = again.left;
-        f = f * ANEW % WORD;
         turns += 1;
     }
     Sifted { found, left }

@@ -39,10 +39,10 @@ const MOST_PLACES: usize = 3 * MOST;
 // Two odd factors, of a key's lower half and of its upper half.
 const LOWER: u64 = 2_654_435_761;
 
-const UPPER: u64 = 1_973_900_851;
+const UPPER: u64 = 2_246_822_519;
 
 // 32 bits of a key.
-pub(crate) fn scatter(x: u64) -> u64
+fn scatter(x: u64) -> u64
     ensures { λ r. ⌜ (r ≡ scattered x) × (r < word) ⌝ }
 {
     let low = x % WORD * LOWER % WORD;

@@ -121,11 +121,11 @@ fn with_holdings(mut day: Day, holding: impl Fn(u32) -> (u32, u32)) -> Day {
     day
 }
 
-/// All positions start at one root of the library's tree, and those of 256 marks are told apart by the mark alone, after 32 bits.
-fn with_long_walks_of_positions(day: Day) -> Day {
+/// All positions have one place where the library sifts them, so that all but the first are left, and are put in order.
+fn with_one_place(day: Day) -> Day {
     with_holdings(day, |index| {
         let (mark, scattered) = (index % 256, index / 256 << 12);
-        (of_product(scattered.wrapping_sub(mark.wrapping_mul(2_246_822_519))), mark)
+        (of_product(scattered.wrapping_sub(mark.wrapping_mul(1_973_900_851))), mark)
     })
 }
 
@@ -167,14 +167,14 @@ fn other_days(random: &mut Random) -> Vec<(&'static str, Day)> {
             "256 marks an account",
             with_holdings(day_of_products(random, &PRODUCTS, full), |index| (index / 256, index % 256)),
         ),
-        ("long position walks", with_long_walks_of_positions(day_of_products(random, &PRODUCTS, full))),
+        ("one place", with_one_place(day_of_products(random, &PRODUCTS, full))),
         ("no positions", with_distinct_numbers(day_of(random, MAX_MARKS, MAX_CORRECTIONS, 0))),
         ("1 mark, no positions", Day { positions: vec![], ..tiny.clone() }),
         ("1 mark, 2 positions", tiny),
     ]
 }
 
-/// Full days of some marks that have other accounts in each call, so that no processor learns the walks.
+/// Full days of some marks that have other accounts in each call, so that no processor learns the places.
 fn print_renewed(random: &mut Random) {
     for (label, marks) in [("new accounts", MAX_MARKS), ("1 mark, new accounts", 1)] {
         let day = with_distinct_numbers(day_of(random, marks, MAX_CORRECTIONS, MAX_POSITIONS));

@@ -51,11 +51,11 @@ fn place_among_the_checks() {
     assert_eq!(refused(&corrected, 2), Some((9, 1)));
 }
 
-/// In lists around the sizes of the library's trees, a position takes the account and mark of any earlier one.
+/// In lists around the sizes of the library's arrays, a position takes the account and mark of any earlier one.
 #[test]
 fn any_two_places() {
     let mut random = Random::new(1_664_525);
-    for count in [2, 3, 31, 32, 33, 34, 511, 512, 513, 514, 4_095, MAX_POSITIONS] {
+    for count in [2, 3, 8, 9, 31, 32, 33, 128, 129, 512, 513, 1_024, 1_025, 4_095, MAX_POSITIONS] {
         for marks in [1, 2, MAX_MARKS] {
             let whole = day_of(&mut random, marks, 0, count);
             assert_eq!(refused(&whole, count), None);
@@ -95,20 +95,76 @@ fn every_bit_counts() {
     }
 }
 
-/// Accounts that the library's tree tells apart by their marks only, after all bits that scatter them: its longest walks.
+/// How long a list may be for each size of the library's arrays.
+const SIZES: [usize; 5] = [32, 128, 512, 1_024, MAX_POSITIONS];
+
+/// A position whose place in the library's first sifting goes by a number: 0 is the first place, and the highest of 32 bits the last.
+fn at_place(place: u32, mark: u32) -> (u32, u32, i32) {
+    (place.wrapping_sub(mark.wrapping_mul(1_973_900_851)).wrapping_mul(244_002_641), mark, 1)
+}
+
+/// A position that takes account and mark of an earlier one.
+fn repeat(day: &mut Day, earlier: usize, later: usize) {
+    day.positions[later] = Position { lots: 2, ..day.positions[earlier] };
+}
+
+/// All have one place: all but the first are left.
 #[test]
-fn longest_walks() {
-    let holding = |index: u32| {
-        let (mark, scattered) = (index % 256, index / 256 << 12);
-        (scattered.wrapping_sub(mark.wrapping_mul(2_246_822_519)).wrapping_mul(244_002_641), mark, 1)
-    };
-    let holdings: Vec<(u32, u32, i32)> = (0..MAX_POSITIONS as u32).map(holding).collect();
-    for count in [32, 512, MAX_POSITIONS] {
-        let mut day = day_with(MAX_MARKS, &holdings[..count]);
-        assert_eq!(refused(&day, count), None);
-        for earlier in [0, count / 2, count - 2] {
-            day.positions[count - 1] = Position { lots: 2, ..day.positions[earlier] };
+fn one_place() {
+    let holdings: Vec<(u32, u32, i32)> =
+        (0..MAX_POSITIONS as u32).map(|index| at_place(index / 256 << 12, index % 256)).collect();
+    for count in SIZES {
+        let whole = day_with(MAX_MARKS, &holdings[..count]);
+        assert_eq!(refused(&whole, count), None);
+        for earlier in [0, 1, count / 2, count - 2] {
+            let mut day = whole.clone();
+            repeat(&mut day, earlier, count - 1);
             assert_eq!(refused(&day, count), Some((16, count - 1)));
+        }
+    }
+}
+
+/// Each place has two: the first half stays, and the second is left. A position that repeats one of the first half is found while they
+/// are sifted, and one that repeats one of the second half among those that are left; the earlier of both is told.
+#[test]
+fn two_at_each_place() {
+    for count in SIZES {
+        let half = count / 2;
+        let holding = |index: usize| at_place((index % half * (1 << 32) / half) as u32, (index / half) as u32);
+        let whole = day_with(2, &(0..count).map(holding).collect::<Vec<_>>());
+        assert_eq!(refused(&whole, count), None);
+        let (stays, left, [next, last]) = (half / 2, half, [count - 2, count - 1]);
+        for (earlier, later) in [(stays, last), (left, last), (left, left + 1), (next, last)] {
+            let mut day = whole.clone();
+            repeat(&mut day, earlier, later);
+            assert_eq!(refused(&day, count), Some((16, later)));
+        }
+        for [first, second] in [[stays, left], [left, stays]] {
+            let mut day = whole.clone();
+            repeat(&mut day, first, next);
+            repeat(&mut day, second, last);
+            assert_eq!(refused(&day, count), Some((16, next)));
+        }
+    }
+}
+
+/// Marks that no file has, up to the highest number: 12 refuses them, and 16 is found by itself. Account and mark together have more than
+/// forty bits; all have one place, or up to sixteen have and up to 256 agree in their lower forty bits.
+#[test]
+fn marks_of_all_sizes() {
+    let scattered = |index: u32| at_place(0, index.wrapping_mul(2_246_822_519));
+    let agreeing = |index: u32| (at_place(index / 256 << 12, 0).0, index % 256 << 24, 1);
+    let lists: [Vec<(u32, u32, i32)>; 2] =
+        [(0..MAX_POSITIONS as u32).map(scattered).collect(), (0..MAX_POSITIONS as u32).map(agreeing).collect()];
+    for holdings in &lists {
+        for count in SIZES {
+            let whole = day_with(1, &holdings[..count]);
+            assert_eq!((refused(&whole, count), find(&whole.bytes(), 16)), (Some((12, 1)), None));
+            for (earlier, later) in [(1, count - 1), (count / 2, count - 1), (count / 4, count / 2)] {
+                let mut day = whole.clone();
+                repeat(&mut day, earlier, later);
+                assert_eq!(find(&day.bytes(), 16), Some(later));
+            }
         }
     }
 }

@@ -18,14 +18,14 @@ first-by-pairs-requires c κs = looked-keyed _ _ _ _ (omega (arith, c .before .l
 returns : tie.Need-returns
 returns c = by-one (first _) (c .first-by-pairs .ensures) (c .before .before .looked-at .ensures)
 
-first-by-middle-requires : tie.Need-first-by-middle-requires
-first-by-middle-requires c κs = looked-keyed _ _ _ _ (omega (arith, c .before .before .looked-at .ensures))
+first-by-most-requires : tie.Need-first-by-most-requires
+first-by-most-requires c κs = looked-keyed _ _ _ _ (omega (arith, c .before .before .looked-at .ensures))
 
 returns-2 : tie.Need-returns-2
-returns-2 c = by-one (first _) (c .first-by-middle .ensures) (c .before .before .before .looked-at .ensures)
+returns-2 c = by-one (first _) (c .first-by-most .ensures) (c .before .before .before .looked-at .ensures)
 
-first-small-requires : tie.Need-first-small-requires
-first-small-requires c κs = (looked-keyed _ _ _ _ (omega (arith, c .before .before .looked-at .ensures)), omega (arith, c .if2 .left))
+tried-small-requires : tie.Need-tried-small-requires
+tried-small-requires c κs = (looked-keyed _ _ _ _ (omega (arith, c .before .before .looked-at .ensures)), omega (arith, c .if2 .left))
 
 enum-known-i : tie.Need-enum-known-i
 enum-known-i c = search needs
@@ -34,16 +34,16 @@ found-at-requires : tie.Need-found-at-requires
 found-at-requires c κs = search needs
 
 returns-3 : tie.Need-returns-3
-returns-3 c = by-one (first _) (c .found-at .ensures ∙ found-first (rw (c .before .before .i .given .1) at (c .before .before .before .before .first-small .ensures))) (c .before .before .before .before .before .before .before .looked-at .ensures)
+returns-3 c = by-one (first _) (c .found-at .ensures ∙ found-first (rw (c .before .before .i .given .1) at (c .before .before .before .before .tried-small .ensures))) (c .before .before .before .before .before .before .before .looked-at .ensures)
 
 enum-told : tie.Need-enum-told
 enum-told c = search needs
 
-first-by-middle-requires-2 : tie.Need-first-by-middle-requires-2
-first-by-middle-requires-2 c κs = looked-keyed _ _ _ _ (omega (arith, c .before .before .before .before .before .looked-at .ensures))
+first-by-most-requires-2 : tie.Need-first-by-most-requires-2
+first-by-most-requires-2 c κs = looked-keyed _ _ _ _ (omega (arith, c .before .before .before .before .before .looked-at .ensures))
 
 returns-4 : tie.Need-returns-4
-returns-4 c = by-one (first _) (c .first-by-middle2 .ensures) (c .before .before .before .before .before .before .looked-at .ensures)
+returns-4 c = by-one (first _) (c .first-by-most2 .ensures) (c .before .before .before .before .before .before .looked-at .ensures)
 
 pub first-repeated-spec : {M : Type 1} → statement M
 first-repeated-spec =
@@ -52,12 +52,12 @@ first-repeated-spec =
     looked-at-requires
     first-by-pairs-requires
     returns
-    first-by-middle-requires
+    first-by-most-requires
     returns-2
-    first-small-requires
+    tried-small-requires
     enum-known-i
     found-at-requires
     returns-3
     enum-told
-    first-by-middle-requires-2
+    first-by-most-requires-2
     returns-4)

@@ -1,0 +1,67 @@
+-- What is right for those that are left of the second sifting is so, with what was found, for all.
+use native.Mathlib.Omega.{arith}
+use Rattle.pairs.proofs.Sifted.{sifts-sifts}
+use borrow.Author.Needs.{needs}
+use Rattle.pairs.proofs.sift.sift_twice.Statement.{statement}
+use Rattle.pairs.proofs.sift.sift_twice.Tie as tie
+
+sift-requires : tie.Need-sift-requires
+sift-requires c κs = search needs
+
+are-few-requires : tie.Need-are-few-requires
+are-few-requires c κs = search needs
+
+same-length : tie.Need-same-length
+same-length c = search needs
+
+same-length-2 : tie.Need-same-length-2
+same-length-2 c = search needs
+
+returns : tie.Need-returns
+returns c = search needs
+
+clear-requires : tie.Need-clear-requires
+clear-requires c κs = search needs
+
+sift-requires-2 : tie.Need-sift-requires-2
+sift-requires-2 c κs =
+    let p = c .before .before .before .before .before .before .before .before .before .before .before .before .before .before .before .before .before .before .pre in
+    let s = c .before .before .before .before .before .before .before .before .before .before .before .before .sift .ensures in (
+      p .0,
+      s .listed,
+      omega (arith, s .fewer, p .1, c .before .before .before .before .before .before .before .before .before .before .before .list .given),
+      omega (arith, s .fewer, p .0 .few),
+      omega (arith, c .before .before .before .place2 .given, c .before .before .before .before .before .before .before .before .before .place .given, p .2),
+      omega (arith, c .before .before .before .place2 .given, c .before .before .before .before .before .before .before .before .before .place .given, p .3),
+      c .before .before .before .before .clear .ensures,
+      omega arith,
+      omega arith,
+    )
+
+smaller-requires : tie.Need-smaller-requires
+smaller-requires c κs = search needs
+
+same-length-3 : tie.Need-same-length-3
+same-length-3 c = search needs
+
+same-length-4 : tie.Need-same-length-4
+same-length-4 c = search needs
+
+returns-2 : tie.Need-returns-2
+returns-2 c = rw (c .smaller .ensures) (sifts-sifts (c .before .before .before .before .before .before .before .before .before .before .before .before .before .before .before .before .before .before .sift .ensures) (c .before .before .before .before .before .sift2 .ensures))
+
+pub sift-twice-spec : {M : Type 1} → statement M
+sift-twice-spec =
+    tie.close
+    (tie.spec
+    sift-requires
+    are-few-requires
+    same-length
+    same-length-2
+    returns
+    clear-requires
+    sift-requires-2
+    smaller-requires
+    same-length-3
+    same-length-4
+    returns-2)
