@@ -77,7 +77,7 @@ fn first_small(records: &[u8], size: usize, key: Key, n: usize) -> Tried
 {
     let mut list = [0u16; SMALL];
     let mut place = [0u16; SMALL_PLACES];
-    let mut other = [0u16; SMALL];
+    let mut other = [0u16; SMALL / 4];
     first_in(records, size, key, n, &mut list, &mut place, &mut other)
 }
 
@@ -88,7 +88,7 @@ fn first_short(records: &[u8], size: usize, key: Key, n: usize) -> Tried
 {
     let mut list = [0u16; SHORT];
     let mut place = [0u16; SHORT_PLACES];
-    let mut other = [0u16; SHORT];
+    let mut other = [0u16; SHORT / 4];
     first_in(records, size, key, n, &mut list, &mut place, &mut other)
 }
 
@@ -99,7 +99,7 @@ fn first_middle(records: &[u8], size: usize, key: Key, n: usize) -> Tried
 {
     let mut list = [0u16; MIDDLE];
     let mut place = [0u16; MIDDLE_PLACES];
-    let mut other = [0u16; MIDDLE];
+    let mut other = [0u16; MIDDLE / 4];
     first_in(records, size, key, n, &mut list, &mut place, &mut other)
 }
 
@@ -110,7 +110,7 @@ fn first_large(records: &[u8], size: usize, key: Key, n: usize) -> Tried
 {
     let mut list = [0u16; LARGE];
     let mut place = [0u16; LARGE_PLACES];
-    let mut other = [0u16; LARGE];
+    let mut other = [0u16; LARGE / 4];
     first_in(records, size, key, n, &mut list, &mut place, &mut other)
 }
 
@@ -121,18 +121,9 @@ fn first_of_most(records: &[u8], size: usize, key: Key, n: usize) -> Tried
 {
     let mut list = [0u16; MOST];
     let mut place = [0u16; MOST_PLACES];
-    let mut other = [0u16; MOST];
+    let mut other = [0u16; MOST / 4];
     let s = sift_all(records, size, key, n, &mut list, &mut place, &mut other);
-    match first_by_order(
-        records,
-        size,
-        key,
-        n,
-        s.left,
-        &mut list,
-        &mut place,
-        &mut other,
-    ) {
+    match first_by_order(records, size, key, n, s.left, &mut list, &mut place) {
         Tried::Answered(i) => Tried::Answered(smaller(i, s.found)),
         Tried::Unanswered => Tried::Unanswered,
     }

@@ -23,14 +23,11 @@ slice-aggregate-first-by-order c = search needs
 slice-aggregate-first-by-order-2 : tie.Need-slice-aggregate-first-by-order-2
 slice-aggregate-first-by-order-2 c = search needs
 
-slice-aggregate-first-by-order-3 : tie.Need-slice-aggregate-first-by-order-3
-slice-aggregate-first-by-order-3 c = search needs
-
 first-by-order-requires : tie.Need-first-by-order-requires
 first-by-order-requires c κs =
-    let p = c .before .before .before .before .before .before .before .before .before .before .before .pre in
-    let s = c .before .before .before .before .before .before .sift-all .ensures in
-    (p, s .fewer, omega (arith, s .fewer, p .few, c .before .before .before .before .before .list2 .given), s .listed, omega (arith, c .before .before .before .before .place2 .given), omega (arith, s .fewer, p .few, c .before .before .before .other2 .given))
+    let p = c .before .before .before .before .before .before .before .before .before .before .pre in
+    let s = c .before .before .before .before .before .sift-all .ensures in
+    (p, s .fewer, omega (arith, s .fewer, p .few, c .before .before .before .before .list2 .given), s .listed, omega (arith, c .before .before .before .place2 .given))
 
 enum-known-i : tie.Need-enum-known-i
 enum-known-i c = search needs
@@ -42,7 +39,7 @@ enum-told : tie.Need-enum-told
 enum-told c = search needs
 
 returns : tie.Need-returns
-returns c = rw (c .smaller .ensures) (c .before .before .before .before .before .before .before .before .before .before .before .before .before .before .sift-all .ensures .answers _ (rw (c .before .before .i .given .1) at (c .before .before .before .before .before .before .before .first-by-order .ensures)))
+returns c = rw (c .smaller .ensures) (c .before .before .before .before .before .before .before .before .before .before .before .before .sift-all .ensures .answers _ (rw (c .before .before .i .given .1) at (c .before .before .before .before .before .before .first-by-order .ensures)))
 
 returns-2 : tie.Need-returns-2
 returns-2 c = search needs
@@ -57,7 +54,6 @@ first-of-most-spec =
     sift-all-requires
     slice-aggregate-first-by-order
     slice-aggregate-first-by-order-2
-    slice-aggregate-first-by-order-3
     first-by-order-requires
     enum-known-i
     smaller-requires
