@@ -50,7 +50,7 @@ extern "C" {
 /* No sheet is longer than this, in bytes: 47 for each of 4,096 positions, and 90 for the totals and the resent count. */
 #define CITRONREEF_SHEET_SIZE 192602
 
-/* The stack that is enough for any call, in KiB. The deepest call measured, a sheet, took less than nine tenths of it. */
+/* The stack that is enough for any call, in KiB. The deepest call measured, a sheet, took less than fifteen sixteenths of it. */
 #define CITRONREEF_STACK_KIB 64
 
 /* The answer of a call on one contract. Where refused is not 0 it is the number of the check, and number is 0. */
