@@ -1,5 +1,5 @@
-// The first record that repeats an earlier one: by sifting; by the order of the keys, where too many records are left of it; and of a handful
-// by every pair.
+// The first record that repeats an earlier one: by sifting; by the order of the keys, where too many records are left of it; and of a
+// handful by every pair.
 use crate::keys::Key;
 use crate::keys::MOST;
 use crate::keys::looked_at;

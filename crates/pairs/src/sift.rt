@@ -60,9 +60,10 @@ fn sift(
     upper: u64,
     place: &mut [u16],
 ) -> Sifted
-    requires { ⌜ (Keyed key size (now records) n) × (Rising n m (indexAt listed (now list))) × (m ≤ length (now list)) × (m ≤ most) × (0 < length (now place))
-        × (length (now place) ≤ 4 * most) × (Zeros (now place)) × (lower < word) × (upper < word) ⌝ }
-    ensures { λ r. ⌜ Sifts (keyAt key size (now (records .entry))) n m (indexAt listed (now (list .entry))) (now (list .exit)) (r .found) (r .left) ⌝ }
+    requires { ⌜ (Keyed key size (now records) n) × (Rising n m (indexAt listed (now list))) × (m ≤ length (now list)) × (m ≤ most)
+        × (0 < length (now place)) × (length (now place) ≤ 4 * most) × (Zeros (now place)) × (lower < word) × (upper < word) ⌝ }
+    ensures { λ r. ⌜ Sifts (keyAt key size (now (records .entry))) n m (indexAt listed (now (list .entry))) (now (list .exit))
+        (r .found) (r .left) ⌝ }
 {
     let mut left = 0;
     let mut t = 0;

@@ -39,7 +39,11 @@ enum-told : tie.Need-enum-told
 enum-told c = search needs
 
 returns : tie.Need-returns
-returns c = rw (c .smaller .ensures) (c .before .before .before .before .before .before .before .before .before .before .before .before .sift-all .ensures .answers _ (rw (c .before .before .i .given .1) at (c .before .before .before .before .before .before .first-by-order .ensures)))
+returns c =
+    let c8 = c .before .before .before .before .before .before .before .before in
+    rw (c .smaller .ensures)
+    (c8 .before .before .before .before .sift-all .ensures .answers _
+    (rw (c .before .before .i .given .1) at (c .before .before .before .before .before .before .first-by-order .ensures)))
 
 returns-2 : tie.Need-returns-2
 returns-2 c = search needs

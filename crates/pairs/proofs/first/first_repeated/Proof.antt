@@ -34,7 +34,10 @@ found-at-requires : tie.Need-found-at-requires
 found-at-requires c κs = search needs
 
 returns-3 : tie.Need-returns-3
-returns-3 c = by-one (first _) (c .found-at .ensures ∙ found-first (rw (c .before .before .i .given .1) at (c .before .before .before .before .tried-small .ensures))) (c .before .before .before .before .before .before .before .looked-at .ensures)
+returns-3 c =
+    by-one (first _)
+    (c .found-at .ensures ∙ found-first (rw (c .before .before .i .given .1) at (c .before .before .before .before .tried-small .ensures)))
+    (c .before .before .before .before .before .before .before .looked-at .ensures)
 
 enum-told : tie.Need-enum-told
 enum-told c = search needs

@@ -38,7 +38,12 @@ loop-less : tie.Need-loop-less Inv-loop μ-loop
 loop-less c = search needs
 
 loop-again : tie.Need-loop-again Inv-loop μ-loop
-loop-again c = let at = c .before .before .loop in (omega (arith, c .before .loop-test .taken), simp length-set (at .inv .1), filled-more (omega (arith, at .inv .1, c .before .before .before .pre .1, c .before .loop-test .taken)) refl (at .inv .2))
+loop-again c =
+    let at = c .before .before .loop in (
+      omega (arith, c .before .loop-test .taken),
+      simp length-set (at .inv .1),
+      filled-more (omega (arith, at .inv .1, c .before .before .before .pre .1, c .before .loop-test .taken)) refl (at .inv .2),
+    )
 
 same-length : tie.Need-same-length Inv-loop μ-loop
 same-length c = c .before .loop .inv .1

@@ -23,7 +23,11 @@ loop-holds : tie.Need-loop-holds Inv-loop μ-loop
 loop-holds c = (omega arith, refl, refl, sifting-start (c .before .before .before .pre .6))
 
 index-at-requires : tie.Need-index-at-requires Inv-loop μ-loop
-index-at-requires c κs = let p = c .before .before .before .before .before .before .pre in (omega (arith, p .2, c .before .before .loop .inv .1, c .before .loop-test .taken), omega (arith, p .3, c .before .loop-test .taken))
+index-at-requires c κs =
+    let p = c .before .before .before .before .before .before .pre in (
+      omega (arith, p .2, c .before .before .loop .inv .1, c .before .loop-test .taken),
+      omega (arith, p .3, c .before .loop-test .taken),
+    )
 
 key-at-requires : tie.Need-key-at-requires Inv-loop μ-loop
 key-at-requires c κs =
@@ -33,7 +37,9 @@ key-at-requires c κs =
     (p .0 .wide (omega (arith, h)), omega (arith, p .0 .whole, c .index-at .ensures, e, h))
 
 place-of-requires : tie.Need-place-of-requires Inv-loop μ-loop
-place-of-requires c κs = let p = c .before .before .before .before .before .before .before .before .pre in let e = c .before .before .before .before .loop .inv .2 in (omega (arith, p .4, e), omega (arith, p .5, e), p .7, p .8)
+place-of-requires c κs =
+    let c8 = c .before .before .before .before .before .before .before .before in
+    let p = c8 .pre in let e = c .before .before .before .before .loop .inv .2 in (omega (arith, p .4, e), omega (arith, p .5, e), p .7, p .8)
 
 mul-wide : tie.Need-mul-wide Inv-loop μ-loop
 mul-wide c = omega (arith, c .place-of .ensures .1, c .before .before .before .before .before .loop .inv .2, c .before .before .before .before .before .before .before .before .before .pre .5)
@@ -49,16 +55,32 @@ add-t c = omega (arith, c .before .before .before .before .before .before .loop-
 
 add-place : tie.Need-add-place Inv-loop μ-loop
 add-place c =
-    let at = c .before .before .before .before .before .before .before .before .loop in
-    omega (arith, c .before .before .before .before .before .index-at .ensures, at .inv .3 .tail (at .t) (omega arith), c .before .before .before .before .before .before .before .before .before .before .before .before .pre .1 .below _ (c .before .before .before .before .before .before .before .loop-test .taken), c .before .before .before .before .before .before .before .before .before .before .before .before .pre .0 .few)
+    let c8 = c .before .before .before .before .before .before .before .before in
+    let at = c8 .loop in
+    omega (
+      arith,
+      c .before .before .before .before .before .index-at .ensures,
+      at .inv .3 .tail (at .t) (omega arith),
+      c8 .before .before .before .before .pre .1 .below _ (c .before .before .before .before .before .before .before .loop-test .taken),
+      c8 .before .before .before .before .pre .0 .few,
+    )
 
 cast-place : tie.Need-cast-place Inv-loop μ-loop
 cast-place c =
-    let at = c .before .before .before .before .before .before .before .before .loop in
-    omega (arith, c .before .before .before .before .before .index-at .ensures, at .inv .3 .tail (at .t) (omega arith), c .before .before .before .before .before .before .before .before .before .before .before .before .pre .1 .below _ (c .before .before .before .before .before .before .before .loop-test .taken), c .before .before .before .before .before .before .before .before .before .before .before .before .pre .0 .few)
+    let c8 = c .before .before .before .before .before .before .before .before in
+    let at = c8 .loop in
+    omega (
+      arith,
+      c .before .before .before .before .before .index-at .ensures,
+      at .inv .3 .tail (at .t) (omega arith),
+      c8 .before .before .before .before .pre .1 .below _ (c .before .before .before .before .before .before .before .loop-test .taken),
+      c8 .before .before .before .before .pre .0 .few,
+    )
 
 mul-place : tie.Need-mul-place Inv-loop μ-loop
-mul-place c = omega (arith, c .before .before .before .place-of .ensures .1, c .before .before .before .before .before .before .before .before .loop .inv .2, c .before .before .before .before .before .before .before .before .before .before .before .before .pre .5)
+mul-place c =
+    let c8 = c .before .before .before .before .before .before .before .before in
+    omega (arith, c .before .before .before .place-of .ensures .1, c8 .loop .inv .2, c8 .before .before .before .before .pre .5)
 
 slice-write-place : tie.Need-slice-write-place Inv-loop μ-loop
 slice-write-place c = c .before .before .before .place-of .ensures .1
@@ -68,7 +90,9 @@ loop-less c = omega (arith, c .before .before .before .before .before .before .b
 
 loop-again : tie.Need-loop-again Inv-loop μ-loop
 loop-again c =
-    let l = c .before .before .before .before .before .before .before .before .loop in
+    let c8 = c .before .before .before .before .before .before .before .before in
+    let a = c8 .before .before .before .before .args in
+    let l = c8 .loop in
     let i = l .inv in (
       omega (arith, c .before .before .before .before .before .before .before .loop-test .taken),
       i .1,
@@ -76,7 +100,7 @@ loop-again c =
       stay
           (i .3)
           (c .before .before .before .before .before .index-at .ensures ∙ i .3 .tail (l .t) (omega arith))
-          (c .before .before .before .place-of .ensures .0 ∙ ap₂ (placeOf (c .before .before .before .before .before .before .before .before .before .before .before .before .args .lower) (c .before .before .before .before .before .before .before .before .before .before .before .before .args .upper)) (i .2) (c .before .before .before .before .key-at .ensures))
+          (c .before .before .before .place-of .ensures .0 ∙ ap₂ (placeOf (a .lower) (a .upper)) (i .2) (c .before .before .before .before .key-at .ensures))
           (sym (c .before .wide .ensures) ∙ c .if1 .taken)
           (c .before .before .before .place-of .ensures .1),
     )
@@ -101,51 +125,73 @@ same-length-2 c = c .before .before .before .before .before .before .before .bef
 
 returns : tie.Need-returns Inv-loop μ-loop
 returns c =
-    let p = c .before .before .before .before .before .before .before .before .before .before .before .before .before .before .pre in
-    let l = c .before .before .before .before .before .before .before .before .before .before .loop in
-    let e : getD (l .place) (c .before .before .before .before .before .place-of .result) 0 ≡ suc (c .before .before .before .wide .result - 1) = omega (arith, c .before .before .before .wide .ensures, c .before .before .if1 .left) in
+    let c8 = c .before .before .before .before .before .before .before .before in
+    let p = c8 .before .before .before .before .before .before .pre in
+    let l = c8 .before .before .loop in
+    let e : getD (l .place) (c .before .before .before .before .before .place-of .result) 0 ≡ suc (c .before .before .before .wide .result - 1) = omega (
+      arith,
+      c .before .before .before .wide .ensures,
+      c .before .before .if1 .left,
+    ) in
     sifted-found
     (l .inv .3)
     (p .1 .rising)
     (p .1 .below)
     (c .before .before .before .before .before .place-of .result)
     (c .before .before .before .wide .result - 1)
-    (c .before .before .before .before .before .before .before .before .before .loop-test .taken)
+    (c8 .before .loop-test .taken)
     (c .before .before .before .before .before .before .before .index-at .ensures ∙ l .inv .3 .tail (l .t) (omega arith))
     e
     (sym (c .before .key-at2 .ensures) ∙ c .if2 .taken ∙ c .before .before .before .before .before .before .key-at .ensures)
 
 cast-list : tie.Need-cast-list Inv-loop μ-loop
 cast-list c =
-    let at = c .before .before .before .before .before .before .before .before .before .before .loop in
-    omega (arith, c .before .before .before .before .before .before .before .index-at .ensures, at .inv .3 .tail (at .t) (omega arith), c .before .before .before .before .before .before .before .before .before .before .before .before .before .before .pre .1 .below _ (c .before .before .before .before .before .before .before .before .before .loop-test .taken), c .before .before .before .before .before .before .before .before .before .before .before .before .before .before .pre .0 .few)
+    let c8 = c .before .before .before .before .before .before .before .before in
+    let at = c8 .before .before .loop in
+    omega (
+      arith,
+      c .before .before .before .before .before .before .before .index-at .ensures,
+      at .inv .3 .tail (at .t) (omega arith),
+      c8 .before .before .before .before .before .before .pre .1 .below _ (c8 .before .loop-test .taken),
+      c8 .before .before .before .before .before .before .pre .0 .few,
+    )
 
 mul-list : tie.Need-mul-list Inv-loop μ-loop
 mul-list c = search needs
 
 slice-write-list : tie.Need-slice-write-list Inv-loop μ-loop
-slice-write-list c = omega (arith, c .before .before .before .before .before .before .before .before .before .before .loop .inv .3 .fewer, c .before .before .before .before .before .before .before .before .before .loop-test .taken, c .before .before .before .before .before .before .before .before .before .before .before .before .before .before .pre .2, c .before .before .before .before .before .before .before .before .before .before .loop .inv .1)
+slice-write-list c =
+    let c8 = c .before .before .before .before .before .before .before .before in
+    omega (arith, c8 .before .before .loop .inv .3 .fewer, c8 .before .loop-test .taken, c8 .before .before .before .before .before .before .pre .2, c8 .before .before .loop .inv .1)
 
 add-left : tie.Need-add-left Inv-loop μ-loop
-add-left c = omega (arith, c .before .before .before .before .before .before .before .before .before .before .loop .inv .3 .fewer, c .before .before .before .before .before .before .before .before .before .loop-test .taken, c .before .before .before .before .before .before .before .before .before .before .before .before .before .before .pre .3)
+add-left c =
+    let c8 = c .before .before .before .before .before .before .before .before in
+    omega (arith, c8 .before .before .loop .inv .3 .fewer, c8 .before .loop-test .taken, c8 .before .before .before .before .before .before .pre .3)
 
 loop-less-2 : tie.Need-loop-less-2 Inv-loop μ-loop
 loop-less-2 c = omega (arith, c .before .before .before .before .before .before .before .before .before .loop-test .taken)
 
 loop-again-2 : tie.Need-loop-again-2 Inv-loop μ-loop
 loop-again-2 c =
-    let p = c .before .before .before .before .before .before .before .before .before .before .before .before .before .before .pre in
-    let l = c .before .before .before .before .before .before .before .before .before .before .loop in
+    let c8 = c .before .before .before .before .before .before .before .before in
+    let a = c8 .before .before .before .before .before .before .args in
+    let p = c8 .before .before .before .before .before .before .pre in
+    let l = c8 .before .before .loop in
     let i = l .inv in
-    let h = c .before .before .before .before .before .before .before .before .before .loop-test .taken in
-    let e : getD (l .place) (c .before .before .before .before .before .place-of .result) 0 ≡ suc (c .before .before .before .wide .result - 1) = omega (arith, c .before .before .before .wide .ensures, c .before .before .if1 .left) in (
+    let h = c8 .before .loop-test .taken in
+    let e : getD (l .place) (c .before .before .before .before .before .place-of .result) 0 ≡ suc (c .before .before .before .wide .result - 1) = omega (
+      arith,
+      c .before .before .before .wide .ensures,
+      c .before .before .if1 .left,
+    ) in (
       omega (arith, h),
       simp length-set (i .1),
       i .2,
       leave
           (i .3)
           (c .before .before .before .before .before .before .before .index-at .ensures ∙ i .3 .tail (l .t) (omega arith))
-          (c .before .before .before .before .before .place-of .ensures .0 ∙ ap₂ (placeOf (c .before .before .before .before .before .before .before .before .before .before .before .before .before .before .args .lower) (c .before .before .before .before .before .before .before .before .before .before .before .before .before .before .args .upper)) (i .2) (c .before .before .before .before .before .before .key-at .ensures))
+          (c .before .before .before .before .before .place-of .ensures .0 ∙ ap₂ (placeOf (a .lower) (a .upper)) (i .2) (c .before .before .before .before .before .before .key-at .ensures))
           e
           (λ q. c .if2 .left (c .before .key-at2 .ensures ∙ q ∙ sym (c .before .before .before .before .before .before .key-at .ensures)))
           (omega (arith, i .3 .fewer, h, p .2, i .1))

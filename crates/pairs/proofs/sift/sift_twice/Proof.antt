@@ -48,7 +48,10 @@ same-length-4 : tie.Need-same-length-4
 same-length-4 c = search needs
 
 returns-2 : tie.Need-returns-2
-returns-2 c = rw (c .smaller .ensures) (sifts-sifts (c .before .before .before .before .before .before .before .before .before .before .before .before .before .before .before .before .before .before .sift .ensures) (c .before .before .before .before .before .sift2 .ensures))
+returns-2 c =
+    let c8 = c .before .before .before .before .before .before .before .before in
+    let c16 = c8 .before .before .before .before .before .before .before .before in
+    rw (c .smaller .ensures) (sifts-sifts (c16 .before .before .sift .ensures) (c .before .before .before .before .before .sift2 .ensures))
 
 pub sift-twice-spec : {M : Type 1} → statement M
 sift-twice-spec =
