@@ -1,25 +1,20 @@
 -- Lists of indices, with one entry set, and the first of the listed records that repeats an earlier one.
-use mathlib.Core.Path.{_≡_, refl, sym, ap, _∙_}
+use mathlib.Core.Path.{_≡_, refl, sym}
 use mathlib.Core.Bool.{Bool, true, false, cond}
 use mathlib.Core.List.{List}
-use mathlib.Core.Logic.{⊎-elim}
-use Prim.Native.Nat.{ℕ, suc, _+_, _*_, _≤_, _<_}
-use native.Mathlib.Nat.{eq-or-lt-of-le}
+use Prim.Native.Nat.{ℕ, _+_, _≤_, _<_}
 use native.Mathlib.Omega.{arith}
-use lib.Dec.{eqb, ltb, leb}
-use lib.ListN.{length, getD, set, replicate, length-set, length-replicate}
-use borrow.Author.Tests.{lt-ltb, le-ltb, ltb-true, ltb-false, eq-eqb, ne-eqb, eqb-true}
-use Rattle.numbers.specs.Folds.{first, repeating, some, Filled}
-use Rattle.numbers.specs.declared.Found.{Found}
+use lib.Dec.{eqb, ltb}
+use lib.ListN.{length, set, length-set}
+use borrow.Author.Tests.{lt-ltb, ltb-true, ltb-false, eq-eqb, ne-eqb}
+use Rattle.numbers.specs.Folds.{first, repeating, Filled}
 use Rattle.numbers.specs.declared.Found.the-variants.{At, Nothing}
 use Rattle.numbers.proofs.Searches.{clear-first, first-here, some-at, clear-some}
-use Rattle.pairs.specs.Keys.{least}
-use Rattle.pairs.specs.Walks.{Zeros}
-use Rattle.pairs.specs.Indices.{at, Hit, Repeats, FirstOf, Below, All, Puts}
-use Rattle.pairs.specs.Sifting.{digits, Counts, Tries, foundAt}
+use Rattle.pairs.specs.Indices.{at, FirstOf, Below, All, Puts}
+use Rattle.pairs.specs.Sifting.{Counts, Tries, foundAt}
 use Rattle.pairs.specs.declared.order.Tried.{Tried}
 use Rattle.pairs.specs.declared.order.Tried.the-variants.{Answered, Unanswered}
-use Rattle.pairs.proofs.Trees.{after-set, zeros}
+use Rattle.pairs.proofs.Trees.{after-set}
 
 pub puts-set : (m k i : ℕ) (list : List ℕ) → k < length list → Puts m i list (set list k i)
 puts-set m k i list l p h a = record { passes = λ u b. after-set (λ (z : ℕ). p z ≡ true) list k u i 0 l (λ e. h) (λ e. a .passes u b) }

@@ -14,7 +14,7 @@ use lib.ListN.{length, getD, set}
 use lib.Seq.{getD-set-same, getD-set-other}
 use borrow.Author.Tests.{leb-true, leb-false}
 use Rattle.pairs.specs.Keys.{least}
-use Rattle.pairs.specs.Indices.{at, Hit, Repeats, FirstOf, Rising, indexAt}
+use Rattle.pairs.specs.Indices.{at, Hit, Repeats, FirstOf, indexAt}
 use Rattle.pairs.specs.Sifting.{Sifts}
 use Rattle.pairs.proofs.Least.{least-first, least-second, least-below-first, least-below-second}
 use Rattle.pairs.proofs.Trees.{after-set}

@@ -5,38 +5,14 @@ use borrow.Author.Needs.{needs}
 use Rattle.pairs.proofs.first.first_of_most.Statement.{statement}
 use Rattle.pairs.proofs.first.first_of_most.Tie as tie
 
-slice-aggregate-sift-all : tie.Need-slice-aggregate-sift-all
-slice-aggregate-sift-all c = search needs
-
-slice-aggregate-sift-all-2 : tie.Need-slice-aggregate-sift-all-2
-slice-aggregate-sift-all-2 c = search needs
-
-slice-aggregate-sift-all-3 : tie.Need-slice-aggregate-sift-all-3
-slice-aggregate-sift-all-3 c = search needs
-
 sift-all-requires : tie.Need-sift-all-requires
 sift-all-requires c κs = let p = c .before .before .before .before .pre in (p, p .few, omega arith, omega arith, zeros 12288, omega arith, omega arith)
-
-slice-aggregate-first-by-order : tie.Need-slice-aggregate-first-by-order
-slice-aggregate-first-by-order c = search needs
-
-slice-aggregate-first-by-order-2 : tie.Need-slice-aggregate-first-by-order-2
-slice-aggregate-first-by-order-2 c = search needs
 
 first-by-order-requires : tie.Need-first-by-order-requires
 first-by-order-requires c κs =
     let p = c .before .before .before .before .before .before .before .before .before .before .pre in
     let s = c .before .before .before .before .before .sift-all .ensures in
     (p, s .fewer, omega (arith, s .fewer, p .few, c .before .before .before .before .list2 .given), s .listed, omega (arith, c .before .before .before .place2 .given))
-
-enum-known-i : tie.Need-enum-known-i
-enum-known-i c = search needs
-
-smaller-requires : tie.Need-smaller-requires
-smaller-requires c κs = search needs
-
-enum-told : tie.Need-enum-told
-enum-told c = search needs
 
 returns : tie.Need-returns
 returns c =
@@ -45,22 +21,19 @@ returns c =
     (c8 .before .before .before .before .sift-all .ensures .answers _
     (rw (c .before .before .i .given .1) at (c .before .before .before .before .before .before .first-by-order .ensures)))
 
-returns-2 : tie.Need-returns-2
-returns-2 c = search needs
-
 pub first-of-most-spec : {M : Type 1} → statement M
 first-of-most-spec =
     tie.close
     (tie.spec
-    slice-aggregate-sift-all
-    slice-aggregate-sift-all-2
-    slice-aggregate-sift-all-3
+    (λ c. search needs)
+    (λ c. search needs)
+    (λ c. search needs)
     sift-all-requires
-    slice-aggregate-first-by-order
-    slice-aggregate-first-by-order-2
+    (λ c. search needs)
+    (λ c. search needs)
     first-by-order-requires
-    enum-known-i
-    smaller-requires
-    enum-told
+    (λ c. search needs)
+    (λ c κs. search needs)
+    (λ c. search needs)
     returns
-    returns-2)
+    (λ c. search needs))

@@ -9,9 +9,6 @@ use borrow.Author.Needs.{needs}
 use Rattle.pairs.proofs.first.first_repeated.Statement.{statement}
 use Rattle.pairs.proofs.first.first_repeated.Tie as tie
 
-looked-at-requires : tie.Need-looked-at-requires
-looked-at-requires c κs = search needs
-
 first-by-pairs-requires : tie.Need-first-by-pairs-requires
 first-by-pairs-requires c κs = looked-keyed _ _ _ _ (omega (arith, c .before .looked-at .ensures))
 
@@ -27,20 +24,11 @@ returns-2 c = by-one (first _) (c .first-by-most .ensures) (c .before .before .b
 tried-small-requires : tie.Need-tried-small-requires
 tried-small-requires c κs = (looked-keyed _ _ _ _ (omega (arith, c .before .before .looked-at .ensures)), omega (arith, c .if2 .left))
 
-enum-known-i : tie.Need-enum-known-i
-enum-known-i c = search needs
-
-found-at-requires : tie.Need-found-at-requires
-found-at-requires c κs = search needs
-
 returns-3 : tie.Need-returns-3
 returns-3 c =
     by-one (first _)
     (c .found-at .ensures ∙ found-first (rw (c .before .before .i .given .1) at (c .before .before .before .before .tried-small .ensures)))
     (c .before .before .before .before .before .before .before .looked-at .ensures)
-
-enum-told : tie.Need-enum-told
-enum-told c = search needs
 
 first-by-most-requires-2 : tie.Need-first-by-most-requires-2
 first-by-most-requires-2 c κs = looked-keyed _ _ _ _ (omega (arith, c .before .before .before .before .before .looked-at .ensures))
@@ -52,15 +40,15 @@ pub first-repeated-spec : {M : Type 1} → statement M
 first-repeated-spec =
     tie.close
     (tie.spec
-    looked-at-requires
+    (λ c κs. search needs)
     first-by-pairs-requires
     returns
     first-by-most-requires
     returns-2
     tried-small-requires
-    enum-known-i
-    found-at-requires
+    (λ c. search needs)
+    (λ c κs. search needs)
     returns-3
-    enum-told
+    (λ c. search needs)
     first-by-most-requires-2
     returns-4)

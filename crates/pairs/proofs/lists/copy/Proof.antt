@@ -1,6 +1,6 @@
 -- At u the first u entries are copied.
 use Prim.Native.Nat.{_≤_, _-_}
-use mathlib.Core.Path.{_≡_, refl, sym, _∙_}
+use mathlib.Core.Path.{_≡_, refl}
 use native.Mathlib.Omega.{arith}
 use lib.ListN.{length, length-set}
 use Rattle.numbers.specs.Folds.{Filled}
@@ -19,23 +19,11 @@ abbrev μ-loop : tie.MeasureT-loop
 loop-holds : tie.Need-loop-holds Inv-loop μ-loop
 loop-holds c = (omega arith, refl, filled-none)
 
-mul-to : tie.Need-mul-to Inv-loop μ-loop
-mul-to c = search needs
-
 shared-slice-read-to : tie.Need-shared-slice-read-to Inv-loop μ-loop
 shared-slice-read-to c = omega (arith, c .before .before .before .pre .0, c .before .loop-test .taken)
 
-mul-to-2 : tie.Need-mul-to-2 Inv-loop μ-loop
-mul-to-2 c = search needs
-
 slice-write-to : tie.Need-slice-write-to Inv-loop μ-loop
 slice-write-to c = omega (arith, c .before .before .loop .inv .1, c .before .before .before .pre .1, c .before .loop-test .taken)
-
-add-u : tie.Need-add-u Inv-loop μ-loop
-add-u c = search needs
-
-loop-less : tie.Need-loop-less Inv-loop μ-loop
-loop-less c = search needs
 
 loop-again : tie.Need-loop-again Inv-loop μ-loop
 loop-again c =
@@ -58,12 +46,12 @@ copy-spec =
     Inv-loop
     μ-loop
     loop-holds
-    mul-to
+    (λ c. search needs)
     shared-slice-read-to
-    mul-to-2
+    (λ c. search needs)
     slice-write-to
-    add-u
-    loop-less
+    (λ c. search needs)
+    (λ c. search needs)
     loop-again
     same-length
     returns)

@@ -1,6 +1,6 @@
 -- At i no record of the first i repeats an earlier one.
 use Prim.Native.Nat.{_≤_, _-_}
-use mathlib.Core.Path.{_≡_, sym, _∙_}
+use mathlib.Core.Path.{_≡_, sym}
 use native.Mathlib.Omega.{arith}
 use Rattle.numbers.specs.Folds.{first, repeating}
 use Rattle.numbers.specs.declared.Found.the-variants.{Nothing}

@@ -1,12 +1,12 @@
 -- At j the flag says whether one of the first j records has the key.
 use Prim.Native.Nat.{_≤_, _-_}
-use mathlib.Core.Path.{_≡_, sym, ap₂, _∙_}
+use mathlib.Core.Path.{_≡_, ap₂}
 use native.Mathlib.Omega.{arith}
 use lib.Dec.{eqb}
 use Rattle.numbers.specs.Folds.{some}
 use Rattle.numbers.proofs.Chain.{at-end}
 use Rattle.numbers.proofs.Searches.{some-start, some-next}
-use Rattle.pairs.specs.Keys.{keyAt, sameKeyIn}
+use Rattle.pairs.specs.Keys.{sameKeyIn}
 use borrow.Author.Needs.{needs}
 use Rattle.pairs.proofs.pairwise.repeats.Statement.{statement}
 use Rattle.pairs.proofs.pairwise.repeats.Tie as tie

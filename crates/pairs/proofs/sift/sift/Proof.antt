@@ -1,5 +1,5 @@
 -- At t each of the first t listed records stays or is left.
-use Prim.Native.Nat.{suc, _+_, _*_, _≤_, _<_, _-_}
+use Prim.Native.Nat.{suc, _≤_, _-_}
 use mathlib.Core.Path.{_≡_, refl, sym, ap₂, _∙_}
 use native.Mathlib.Omega.{arith}
 use lib.ListN.{length, getD, length-set}
@@ -46,9 +46,6 @@ mul-wide c = omega (arith, c .place-of .ensures .1, c .before .before .before .b
 
 slice-read-wide : tie.Need-slice-read-wide Inv-loop μ-loop
 slice-read-wide c = c .before .place-of .ensures .1
-
-wide-requires : tie.Need-wide-requires Inv-loop μ-loop
-wide-requires c κs = search needs
 
 add-t : tie.Need-add-t Inv-loop μ-loop
 add-t c = omega (arith, c .before .before .before .before .before .before .loop-test .taken, c .before .before .before .before .before .before .before .before .before .before .before .pre .3)
@@ -156,9 +153,6 @@ cast-list c =
       c8 .before .before .before .before .before .before .pre .0 .few,
     )
 
-mul-list : tie.Need-mul-list Inv-loop μ-loop
-mul-list c = search needs
-
 slice-write-list : tie.Need-slice-write-list Inv-loop μ-loop
 slice-write-list c =
     let c8 = c .before .before .before .before .before .before .before .before in
@@ -219,7 +213,7 @@ sift-spec =
     place-of-requires
     mul-wide
     slice-read-wide
-    wide-requires
+    (λ c κs. search needs)
     add-t
     add-place
     cast-place
@@ -233,7 +227,7 @@ sift-spec =
     same-length-2
     returns
     cast-list
-    mul-list
+    (λ c. search needs)
     slice-write-list
     add-left
     loop-less-2

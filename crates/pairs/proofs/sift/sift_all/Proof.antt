@@ -1,6 +1,6 @@
 -- What is right for those that are left at a turn is so, with what was found, for all.
-use Prim.Native.Nat.{_≤_, _<_, _-_}
-use mathlib.Core.Path.{_≡_, refl, sym, _∙_}
+use Prim.Native.Nat.{_<_, _-_}
+use mathlib.Core.Path.{_≡_, refl, _∙_}
 use native.Mathlib.Omega.{arith}
 use lib.ListN.{length}
 use Rattle.pairs.specs.Keys.{keyAt, word}
@@ -23,9 +23,6 @@ sift-twice-requires c κs = let p = c .before .before .before .before .before .b
 loop-holds : tie.Need-loop-holds Inv-loop μ-loop
 loop-holds c = (refl, refl, c .before .before .before .before .sift-twice .ensures, omega arith, omega arith)
 
-are-few-requires : tie.Need-are-few-requires Inv-loop μ-loop
-are-few-requires c κs = search needs
-
 same-length : tie.Need-same-length Inv-loop μ-loop
 same-length c = c .before .before .before .loop .inv .0 ∙ c .before .before .before .before .before .before .before .list .given
 
@@ -37,9 +34,6 @@ same-length-3 c = c .before .before .before .loop .inv .1
 
 returns : tie.Need-returns Inv-loop μ-loop
 returns c = c .before .before .before .loop .inv .2
-
-clear-requires : tie.Need-clear-requires Inv-loop μ-loop
-clear-requires c κs = search needs
 
 mul-lower : tie.Need-mul-lower Inv-loop μ-loop
 mul-lower c = omega (arith, c .before .before .before .before .before .before .before .loop .inv .3)
@@ -61,9 +55,6 @@ sift-requires c κs =
       omega arith,
       omega arith,
     )
-
-smaller-requires : tie.Need-smaller-requires Inv-loop μ-loop
-smaller-requires c κs = search needs
 
 add-turns : tie.Need-add-turns Inv-loop μ-loop
 add-turns c = omega (arith, c .before .before .before .before .before .before .before .before .before .before .before .before .before .before .loop-test .taken)
@@ -101,16 +92,16 @@ sift-all-spec =
     μ-loop
     sift-twice-requires
     loop-holds
-    are-few-requires
+    (λ c κs. search needs)
     same-length
     same-length-2
     same-length-3
     returns
-    clear-requires
+    (λ c κs. search needs)
     mul-lower
     mul-upper
     sift-requires
-    smaller-requires
+    (λ c κs. search needs)
     add-turns
     loop-less
     loop-again

@@ -5,24 +5,6 @@ use borrow.Author.Needs.{needs}
 use Rattle.pairs.proofs.sift.sift_twice.Statement.{statement}
 use Rattle.pairs.proofs.sift.sift_twice.Tie as tie
 
-sift-requires : tie.Need-sift-requires
-sift-requires c κs = search needs
-
-are-few-requires : tie.Need-are-few-requires
-are-few-requires c κs = search needs
-
-same-length : tie.Need-same-length
-same-length c = search needs
-
-same-length-2 : tie.Need-same-length-2
-same-length-2 c = search needs
-
-returns : tie.Need-returns
-returns c = search needs
-
-clear-requires : tie.Need-clear-requires
-clear-requires c κs = search needs
-
 sift-requires-2 : tie.Need-sift-requires-2
 sift-requires-2 c κs =
     let p = c .before .before .before .before .before .before .before .before .before .before .before .before .before .before .before .before .before .before .pre in
@@ -38,15 +20,6 @@ sift-requires-2 c κs =
       omega arith,
     )
 
-smaller-requires : tie.Need-smaller-requires
-smaller-requires c κs = search needs
-
-same-length-3 : tie.Need-same-length-3
-same-length-3 c = search needs
-
-same-length-4 : tie.Need-same-length-4
-same-length-4 c = search needs
-
 returns-2 : tie.Need-returns-2
 returns-2 c =
     let c8 = c .before .before .before .before .before .before .before .before in
@@ -57,14 +30,14 @@ pub sift-twice-spec : {M : Type 1} → statement M
 sift-twice-spec =
     tie.close
     (tie.spec
-    sift-requires
-    are-few-requires
-    same-length
-    same-length-2
-    returns
-    clear-requires
+    (λ c κs. search needs)
+    (λ c κs. search needs)
+    (λ c. search needs)
+    (λ c. search needs)
+    (λ c. search needs)
+    (λ c κs. search needs)
     sift-requires-2
-    smaller-requires
-    same-length-3
-    same-length-4
+    (λ c κs. search needs)
+    (λ c. search needs)
+    (λ c. search needs)
     returns-2)
