@@ -1,5 +1,5 @@
 -- Lists of indices, with one entry set, and the first of the listed records that repeats an earlier one.
-use mathlib.Core.Path.{_≡_, refl, sym}
+use mathlib.Core.Path.{_≡_, refl, sym, _∙_}
 use mathlib.Core.Bool.{Bool, true, false, cond}
 use mathlib.Core.List.{List}
 use Prim.Native.Nat.{ℕ, _+_, _≤_, _<_}
@@ -10,7 +10,7 @@ use borrow.Author.Tests.{lt-ltb, ltb-true, ltb-false, eq-eqb, ne-eqb}
 use Rattle.numbers.specs.Folds.{first, repeating, Filled}
 use Rattle.numbers.specs.declared.Found.the-variants.{At, Nothing}
 use Rattle.numbers.proofs.Searches.{clear-first, first-here, some-at, clear-some}
-use Rattle.pairs.specs.Indices.{at, FirstOf, Below, All, Puts}
+use Rattle.pairs.specs.Indices.{at, Hit, FirstOf, Below, All, Puts}
 use Rattle.pairs.specs.Sifting.{Counts, Tries, foundAt}
 use Rattle.pairs.specs.declared.order.Tried.{Tried}
 use Rattle.pairs.specs.declared.order.Tried.the-variants.{Answered, Unanswered}
@@ -51,6 +51,23 @@ module _ {key : ℕ → ℕ} {n : ℕ} where
   -- of no record
   pub first-of-none : {f : ℕ → ℕ} → FirstOf key f n 0 n
   first-of-none = record { within = omega arith; repeats = λ h. absurd (omega arith); lowest = λ j k a b l e. absurd (omega (arith, a .below)) }
+
+  -- of a list of all it is the first of all
+  pub first-of-listed : {list : List ℕ} {i : ℕ} → Filled 0 (λ (u : ℕ). u) n list → FirstOf key (at list) n n i → FirstOf key (λ (u : ℕ). u) n n i
+  first-of-listed {list} {i} all o =
+      record {
+        within = o .within;
+        repeats = λ h.
+            let r = o .repeats h in
+            record { listed = one (r .listed); other = r .other; listed-too = one (r .listed-too); lower = r .lower; same = r .same };
+        lowest = λ j k a b. o .lowest j k (there a) (there b);
+      }
+    where
+      one : {j : ℕ} → Hit (at list) n j → Hit (λ (u : ℕ). u) n j
+      one a = record { place = a .place; below = a .below; is = sym (all .entry (a .place) (a .below)) ∙ a .is }
+
+      there : {j : ℕ} → Hit (λ (u : ℕ). u) n j → Hit (at list) n j
+      there a = record { place = a .place; below = a .below; is = all .entry (a .place) (a .below) ∙ a .is }
 
   -- of all: it is what the search by index finds
   module _ {i : ℕ} (o : FirstOf key (λ (u : ℕ). u) n n i) where

@@ -1,5 +1,5 @@
--- A list that is being sifted. Each of the first t listed records stays at the place of its key or is left; one that is left has found
--- another key there. So where two of them have one key both are left.
+-- A list that is being sifted. Each of the first t listed records stays at a place of its key or is left; one that is left has found
+-- other keys at both places. So where two of them have one key both are left.
 use mathlib.Core.Path.{_≡_, refl, sym, ap, _∙_}
 use mathlib.Core.Bool.{Bool, true, false, cond}
 use mathlib.Core.List.{List}
@@ -15,24 +15,38 @@ use lib.Seq.{getD-set-same, getD-set-other}
 use borrow.Author.Tests.{leb-true, leb-false}
 use Rattle.pairs.specs.Keys.{least}
 use Rattle.pairs.specs.Indices.{at, Hit, Repeats, FirstOf, indexAt}
-use Rattle.pairs.specs.Sifting.{Sifts}
+use Rattle.pairs.specs.Sifting.{placeOf, Sifts}
 use Rattle.pairs.proofs.Least.{least-first, least-second, least-below-first, least-below-second}
 use Rattle.pairs.proofs.Trees.{after-set}
 
-pub record Sifting (key root before : ℕ → ℕ) (listed : Bool) (places after : List ℕ) (t left : ℕ) : Type 0 where
+-- the record at a place has another key than x
+pub record Another (key : ℕ → ℕ) (places : List ℕ) (a x : ℕ) : Type 0 where
+  pub full : getD places a 0 ≡ 0 → ⊥
+  pub differ : (h : ℕ) → getD places a 0 ≡ suc h → key h ≡ x → ⊥
+
+-- record i is at the first place of its key, or at the second, and then another key is at the first
+pub record Stays (key : ℕ → ℕ) (spot : Bool → ℕ → ℕ) (places : List ℕ) (i : ℕ) : Type 0 where
+  pub second : Bool
+  pub there : getD places (spot second (key i)) 0 ≡ suc i
+  pub passed : second ≡ true → Another key places (spot false (key i)) (key i)
+
+-- the two places of a key: the factors change their parts
+abbrev pub spotOf : ℕ → ℕ → ℕ → Bool → ℕ → ℕ
+spotOf lower upper places second x = cond second (placeOf upper lower places x) (placeOf lower upper places x)
+
+pub record Sifting (key : ℕ → ℕ) (spot : Bool → ℕ → ℕ) (before : ℕ → ℕ) (listed : Bool) (places after : List ℕ) (t left : ℕ) : Type 0 where
   pub fewer : left ≤ t
   pub tail : (u : ℕ) → t ≤ u → indexAt listed after u ≡ before u
   pub held : (a h : ℕ) → getD places a 0 ≡ suc h → Hit before t h
   pub leaves : (u : ℕ) → u < left → Hit before t (at after u)
   pub rising : (u v : ℕ) → u < v → v < left → at after u < at after v
-  pub full : (u : ℕ) → u < left → getD places (root (key (at after u))) 0 ≡ 0 → ⊥
-  pub differ : (u h : ℕ) → u < left → getD places (root (key (at after u))) 0 ≡ suc h → key h ≡ key (at after u) → ⊥
-  pub stays : (i : ℕ) → Hit before t i → (getD places (root (key i)) 0 ≡ suc i) ⊎ Hit (at after) left i
+  pub passed : (u : ℕ) → u < left → (b : Bool) → Another key places (spot b (key (at after u))) (key (at after u))
+  pub stays : (i : ℕ) → Hit before t i → Stays key spot places i ⊎ Hit (at after) left i
 
 -- ---- lists that are not sifted yet
 
-module _ {key root : ℕ → ℕ} {listed : Bool} {places list : List ℕ} where
-  pub sifting-start : ((a : ℕ) → getD places a 0 ≡ 0) → Sifting key root (indexAt listed list) listed places list 0 0
+module _ {key : ℕ → ℕ} {spot : Bool → ℕ → ℕ} {listed : Bool} {places list : List ℕ} where
+  pub sifting-start : ((a : ℕ) → getD places a 0 ≡ 0) → Sifting key spot (indexAt listed list) listed places list 0 0
   sifting-start z =
       record {
         fewer = omega arith;
@@ -40,8 +54,7 @@ module _ {key root : ℕ → ℕ} {listed : Bool} {places list : List ℕ} where
         held = λ a h p. absurd (omega (arith, z a, p));
         leaves = λ u h. absurd (omega arith);
         rising = λ u v h k. absurd (omega arith);
-        full = λ u h. absurd (omega arith);
-        differ = λ u h k. absurd (omega arith);
+        passed = λ u h. absurd (omega arith);
         stays = λ i a. absurd (omega (arith, a .below));
       }
 
@@ -68,11 +81,37 @@ hit-set list k x {i} l a =
       is = after-set (λ (z : ℕ). z ≡ i) list k (a .place) x 0 l (λ e. absurd (omega (arith, a .below, e))) (λ e. a .is);
     }
 
-module _ {key root before : ℕ → ℕ} {listed : Bool} {places list : List ℕ} {t left : ℕ} (s : Sifting key root before listed places list t left) where
-  -- the record that is looked at has its place for itself, and stays
-  pub stay : {i e : ℕ} → i ≡ before t → e ≡ root (key i) → getD places e 0 ≡ 0 → e < length places
-      → Sifting key root before listed (set places e (i + 1)) list (t + 1) left
-  stay {i} {e} is root-is empty l =
+-- ---- places
+
+pub another : {key : ℕ → ℕ} {places : List ℕ} {a x h : ℕ} → getD places a 0 ≡ suc h → (key h ≡ x → ⊥) → Another key places a x
+another {key} {places} {a} {x} {h} is other =
+    record {
+      full = λ p. omega (arith, p, is);
+      differ = λ g p q. let same : g ≡ h = omega (arith, p, is) in other (ap key (sym same) ∙ q);
+    }
+
+pub another-at : {key : ℕ → ℕ} {places : List ℕ} {a b x : ℕ} → a ≡ b → Another key places a x → Another key places b x
+another-at q w = rw (sym q) w
+
+-- it stays so where a record comes to an empty place
+another-set : {key : ℕ → ℕ} (places : List ℕ) (e v : ℕ) {a x : ℕ} → e < length places → getD places e 0 ≡ 0 → Another key places a x
+    → Another key (set places e v) a x
+another-set {key} places e v {a} {x} l empty w =
+    record {
+      full = after-set (λ (z : ℕ). z ≡ 0 → ⊥) places e a v 0 l (λ q. absurd (w .full (ap (λ k. getD places k 0) q ∙ empty))) (λ q. w .full);
+      differ = λ h.
+          after-set (λ (z : ℕ). z ≡ suc h → key h ≡ x → ⊥) places e a v 0 l
+          (λ q. absurd (w .full (ap (λ k. getD places k 0) q ∙ empty)))
+          (λ q. w .differ h);
+    }
+
+module _ {key : ℕ → ℕ} {spot : Bool → ℕ → ℕ} {before : ℕ → ℕ} {listed : Bool} {places list : List ℕ} {t left : ℕ}
+    (s : Sifting key spot before listed places list t left) where
+  -- the record that is looked at has a place for itself, and stays
+  pub stay : (b : Bool) {i e : ℕ} → i ≡ before t → e ≡ spot b (key i) → getD places e 0 ≡ 0 → e < length places
+      → (b ≡ true → Another key places (spot false (key i)) (key i))
+      → Sifting key spot before listed (set places e (i + 1)) list (t + 1) left
+  stay b {i} {e} is spot-is empty l first =
       record {
         fewer = omega (arith, s .fewer);
         tail = λ u h. s .tail u (omega arith);
@@ -82,31 +121,35 @@ module _ {key root before : ℕ → ℕ} {listed : Bool} {places list : List ℕ
             (λ q p. hit-more (s .held a h p));
         leaves = λ u h. hit-more (s .leaves u h);
         rising = s .rising;
-        full = λ u h.
-            after-set (λ (z : ℕ). z ≡ 0 → ⊥) places e (root (key (at list u))) (i + 1) 0 l (λ q p. absurd (omega (arith, p))) (λ q. s .full u h);
-        differ = λ u h k.
-            after-set (λ (z : ℕ). z ≡ suc h → key h ≡ key (at list u) → ⊥) places e (root (key (at list u))) (i + 1) 0 l
-            (λ q p r. s .full u k (ap (λ a. getD places a 0) q ∙ empty))
-            (λ q. s .differ u h k);
-        stays = λ j a. ⊎-elim (λ (q : before t ≡ j). inl (here j (is ∙ q))) (λ (b : Hit before t j). still j (s .stays j b)) (hit-split a);
+        passed = λ u h c. another-set places e (i + 1) l empty (s .passed u h c);
+        stays = λ j a. ⊎-elim (λ (q : before t ≡ j). inl (here j (is ∙ q))) (λ (c : Hit before t j). still j (s .stays j c)) (hit-split a);
       }
     where
-      here : (j : ℕ) → i ≡ j → getD (set places e (i + 1)) (root (key j)) 0 ≡ suc j
-      here j q = let r : root (key j) ≡ e = ap (λ k. root (key k)) (sym q) ∙ sym root-is in rw r (getD-set-same places e (i + 1) 0 l ∙ add-one i ∙ ap suc q)
+      here : (j : ℕ) → i ≡ j → Stays key spot (set places e (i + 1)) j
+      here j q =
+          rw (sym q)
+          (record {
+            second = b;
+            there = rw (sym spot-is) (getD-set-same places e (i + 1) 0 l ∙ add-one i);
+            passed = λ c. another-set places e (i + 1) l empty (first c);
+          })
 
-      still : (j : ℕ) → (getD places (root (key j)) 0 ≡ suc j) ⊎ Hit (at list) left j
-          → (getD (set places e (i + 1)) (root (key j)) 0 ≡ suc j) ⊎ Hit (at list) left j
-      still j (inl p) =
+      still : (j : ℕ) → Stays key spot places j ⊎ Hit (at list) left j → Stays key spot (set places e (i + 1)) j ⊎ Hit (at list) left j
+      still j (inl w) =
           inl
-          (after-set (λ (z : ℕ). z ≡ suc j) places e (root (key j)) (i + 1) 0 l
-          (λ q. absurd (omega (arith, p, ap (λ a. getD places a 0) q, empty)))
-          (λ q. p))
-      still j (inr b) = inr b
+          (record {
+            second = w .second;
+            there = after-set (λ (z : ℕ). z ≡ suc j) places e (spot (w .second) (key j)) (i + 1) 0 l
+                (λ q. absurd (omega (arith, w .there, ap (λ a. getD places a 0) q, empty)))
+                (λ q. w .there);
+            passed = λ c. another-set places e (i + 1) l empty (w .passed c);
+          })
+      still j (inr c) = inr c
 
-  -- it has found another key, and is left
-  pub leave : {i e h : ℕ} → i ≡ before t → e ≡ root (key i) → getD places e 0 ≡ suc h → (key h ≡ key i → ⊥) → left < length list
-      → ((u : ℕ) → u < t → before u < before t) → Sifting key root before listed places (set list left i) (t + 1) (left + 1)
-  leave {i} {e} {h} is root-is full-is other l up =
+  -- it has found other keys at both places, and is left
+  pub leave : {i : ℕ} → i ≡ before t → Another key places (spot false (key i)) (key i) → Another key places (spot true (key i)) (key i)
+      → left < length list → ((u : ℕ) → u < t → before u < before t) → Sifting key spot before listed places (set list left i) (t + 1) (left + 1)
+  leave {i} is first second l up =
       record {
         fewer = omega (arith, s .fewer);
         tail = λ u k. beyond listed u (λ q. omega (arith, s .fewer, q)) ∙ s .tail u (omega arith);
@@ -119,12 +162,9 @@ module _ {key root before : ℕ → ℕ} {listed : Bool} {places list : List ℕ
             (λ (q : v ≡ left). rw (as-was u (λ r. omega (arith, r, q, k)), q, now-there, is) (lower u (omega (arith, q, k))))
             (λ (c : v < left). rw (as-was u (λ r. omega (arith, r, c, k)), as-was v (λ r. omega (arith, r, c))) (s .rising u v k c))
             (eq-or-lt-of-le (omega (arith, b)));
-        full = λ u k. by-end (λ v. getD places (root (key (at (set list left i) v))) 0 ≡ 0 → ⊥) u k
-            (rw (now-there, sym root-is) (λ p. omega (arith, p, full-is)))
-            (λ b. rw (as-was u (λ q. omega (arith, q, b))) (s .full u b));
-        differ = λ u g k. by-end (λ v. getD places (root (key (at (set list left i) v))) 0 ≡ suc g → key g ≡ key (at (set list left i) v) → ⊥) u k
-            (rw (now-there, sym root-is) (λ p q. let same : g ≡ h = omega (arith, p, full-is) in other (ap key (sym same) ∙ q)))
-            (λ b. rw (as-was u (λ q. omega (arith, q, b))) (s .differ u g b));
+        passed = λ u k c. by-end (λ v. Another key places (spot c (key (at (set list left i) v))) (key (at (set list left i) v))) u k
+            (rw now-there (both c))
+            (λ b. rw (as-was u (λ q. omega (arith, q, b))) (s .passed u b c));
         stays = λ j a.
             ⊎-elim
             (λ (q : before t ≡ j). inr (record { place = left; below = omega arith; is = now-there ∙ is ∙ q }))
@@ -132,6 +172,10 @@ module _ {key root before : ℕ → ℕ} {listed : Bool} {places list : List ℕ
             (hit-split a);
       }
     where
+      both : (b : Bool) → Another key places (spot b (key i)) (key i)
+      both false = first
+      both true = second
+
       now-there : at (set list left i) left ≡ i
       now-there = getD-set-same list left i 0 l
 
@@ -148,15 +192,32 @@ module _ {key root before : ℕ → ℕ} {listed : Bool} {places list : List ℕ
       by-end : (P : ℕ → Type 0) (u : ℕ) → u < left + 1 → P left → (u < left → P u) → P u
       by-end P u k a b = ⊎-elim (λ (q : u ≡ left). rw q a) b (eq-or-lt-of-le (omega arith))
 
+  -- where one with a key stays none with the same is left
+  stays-alone : (i j : ℕ) → Stays key spot places i → Hit (at list) left j → key i ≡ key j → ⊥
+  stays-alone i j w a e =
+      s .passed (a .place) (a .below) (w .second) .differ i
+      (ap (λ k. getD places (spot (w .second) (key k)) 0) (a .is) ∙ ap (λ k. getD places (spot (w .second) k) 0) (sym e) ∙ w .there)
+      (e ∙ sym (ap key (a .is)))
+
+  -- and none with the same stays
+  stay-apart : (i j : ℕ) → Stays key spot places i → Stays key spot places j → key i ≡ key j → i ≡ j
+  stay-apart i j w v e = go (w .second) (v .second) (w .there) (v .there) (w .passed) (v .passed)
+    where
+      go : (b c : Bool) → getD places (spot b (key i)) 0 ≡ suc i → getD places (spot c (key j)) 0 ≡ suc j
+          → (b ≡ true → Another key places (spot false (key i)) (key i)) → (c ≡ true → Another key places (spot false (key j)) (key j)) → i ≡ j
+      go true true p q f g = omega (arith, p, q, ap (λ k. getD places (spot true k) 0) e)
+      go false false p q f g = omega (arith, p, q, ap (λ k. getD places (spot false k) 0) e)
+      go true false p q f g = absurd (f refl .differ j (ap (λ k. getD places (spot false k) 0) e ∙ q) (sym e))
+      go false true p q f g = absurd (g refl .differ i (ap (λ k. getD places (spot false k) 0) (sym e) ∙ p) e)
+
   -- two that have one key are both left
   both-left : (i j : ℕ) → Hit before t i → Hit before t j → j < i → key j ≡ key i → Hit (at list) left i × Hit (at list) left j
   both-left i j a b l e = go (s .stays i a) (s .stays j b)
     where
-      go : (getD places (root (key i)) 0 ≡ suc i) ⊎ Hit (at list) left i → (getD places (root (key j)) 0 ≡ suc j) ⊎ Hit (at list) left j
-          → Hit (at list) left i × Hit (at list) left j
-      go (inl p) (inl q) = absurd (omega (arith, p, q, ap (λ k. getD places (root k) 0) e, l))
-      go (inl p) (inr q) = absurd (s .differ (q .place) i (q .below) (ap (λ k. getD places (root (key k)) 0) (q .is) ∙ ap (λ k. getD places (root k) 0) e ∙ p) (sym e ∙ sym (ap key (q .is))))
-      go (inr p) (inl q) = absurd (s .differ (p .place) j (p .below) (ap (λ k. getD places (root (key k)) 0) (p .is) ∙ sym (ap (λ k. getD places (root k) 0) e) ∙ q) (e ∙ sym (ap key (p .is))))
+      go : Stays key spot places i ⊎ Hit (at list) left i → Stays key spot places j ⊎ Hit (at list) left j → Hit (at list) left i × Hit (at list) left j
+      go (inl p) (inl q) = absurd (omega (arith, stay-apart i j p q (sym e), l))
+      go (inl p) (inr q) = absurd (stays-alone i j p q (sym e))
+      go (inr p) (inl q) = absurd (stays-alone j i q p e)
       go (inr p) (inr q) = (p, q)
 
   was-listed : {m i : ℕ} → t ≤ m → Hit (at list) left i → Hit before m i

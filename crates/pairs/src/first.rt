@@ -4,6 +4,7 @@ use crate::keys::Key;
 use crate::keys::MOST;
 use crate::keys::looked_at;
 use crate::keys::smaller;
+use crate::lists::list_all;
 use crate::order::Tried;
 use crate::order::first_by_order;
 use crate::pairwise::first_by_pairs;
@@ -41,6 +42,9 @@ const LARGE_PLACES: usize = 4 * LARGE;
 
 const MOST_PLACES: usize = 3 * MOST;
 
+// Counts for the digits of four passes.
+const COUNTS: usize = 4_096;
+
 // What an index says: the number of all records that none repeats another.
 fn found_at(i: usize, n: usize) -> Found
     ensures { λ r. ⌜ r ≡ foundAt i n ⌝ }
@@ -58,12 +62,12 @@ fn first_in(
     place: &mut [u16],
     other: &mut [u16],
 ) -> Tried
-    requires { ⌜ (Keyed key size (now records) n) × (n ≤ length (now list)) × (0 < length (now place)) × (length (now place) ≤ 4 * most)
-        × Zeros (now place) × (0 < length (now other)) × (length (now other) ≤ 4 * most) ⌝ }
+    requires { ⌜ (Keyed key size (now records) n) × (0 < length (now place)) × (length (now place) ≤ 4 * most) × Zeros (now place)
+        × (0 < length (now other)) × (length (now other) ≤ 4 * most) ⌝ }
     ensures { λ r. ⌜ Tries (FirstOf (keyAt key size (now (records .entry))) (λ u. u) n n) r ⌝ }
 {
     let s = sift_all(records, size, key, n, list, place, other);
-    if s.left == 0 {
+    if s.whole & (s.left == 0) {
         Tried::Answered(smaller(n, s.found))
     } else {
         Tried::Unanswered
@@ -75,7 +79,7 @@ fn first_small(records: &[u8], size: usize, key: Key, n: usize) -> Tried
     requires { ⌜ (Keyed key size (now records) n) × (n ≤ 32) ⌝ }
     ensures { λ r. ⌜ Tries (FirstOf (keyAt key size (now (records .entry))) (λ u. u) n n) r ⌝ }
 {
-    let mut list = [0u16; SMALL];
+    let mut list = [0u16; SMALL / 4];
     let mut place = [0u16; SMALL_PLACES];
     let mut other = [0u16; SMALL / 4];
     first_in(records, size, key, n, &mut list, &mut place, &mut other)
@@ -86,7 +90,7 @@ fn first_short(records: &[u8], size: usize, key: Key, n: usize) -> Tried
     requires { ⌜ (Keyed key size (now records) n) × (n ≤ 128) ⌝ }
     ensures { λ r. ⌜ Tries (FirstOf (keyAt key size (now (records .entry))) (λ u. u) n n) r ⌝ }
 {
-    let mut list = [0u16; SHORT];
+    let mut list = [0u16; SHORT / 4];
     let mut place = [0u16; SHORT_PLACES];
     let mut other = [0u16; SHORT / 4];
     first_in(records, size, key, n, &mut list, &mut place, &mut other)
@@ -97,7 +101,7 @@ fn first_middle(records: &[u8], size: usize, key: Key, n: usize) -> Tried
     requires { ⌜ (Keyed key size (now records) n) × (n ≤ 512) ⌝ }
     ensures { λ r. ⌜ Tries (FirstOf (keyAt key size (now (records .entry))) (λ u. u) n n) r ⌝ }
 {
-    let mut list = [0u16; MIDDLE];
+    let mut list = [0u16; MIDDLE / 4];
     let mut place = [0u16; MIDDLE_PLACES];
     let mut other = [0u16; MIDDLE / 4];
     first_in(records, size, key, n, &mut list, &mut place, &mut other)
@@ -108,7 +112,7 @@ fn first_large(records: &[u8], size: usize, key: Key, n: usize) -> Tried
     requires { ⌜ (Keyed key size (now records) n) × (n ≤ 1_024) ⌝ }
     ensures { λ r. ⌜ Tries (FirstOf (keyAt key size (now (records .entry))) (λ u. u) n n) r ⌝ }
 {
-    let mut list = [0u16; LARGE];
+    let mut list = [0u16; LARGE / 4];
     let mut place = [0u16; LARGE_PLACES];
     let mut other = [0u16; LARGE / 4];
     first_in(records, size, key, n, &mut list, &mut place, &mut other)
@@ -119,14 +123,29 @@ fn first_of_most(records: &[u8], size: usize, key: Key, n: usize) -> Tried
     requires { ⌜ Keyed key size (now records) n ⌝ }
     ensures { λ r. ⌜ Tries (FirstOf (keyAt key size (now (records .entry))) (λ u. u) n n) r ⌝ }
 {
-    let mut list = [0u16; MOST];
+    let mut list = [0u16; MOST / 4];
     let mut place = [0u16; MOST_PLACES];
     let mut other = [0u16; MOST / 4];
     let s = sift_all(records, size, key, n, &mut list, &mut place, &mut other);
-    match first_by_order(records, size, key, n, s.left, &mut list, &mut place) {
+    if !s.whole {
+        return Tried::Unanswered;
+    }
+    match first_by_order(records, size, key, n, s.left, &mut list, &mut place, &mut other) {
         Tried::Answered(i) => Tried::Answered(smaller(i, s.found)),
         Tried::Unanswered => Tried::Unanswered,
     }
+}
+
+// All of them, put in order.
+fn first_of_all(records: &[u8], size: usize, key: Key, n: usize) -> Tried
+    requires { ⌜ Keyed key size (now records) n ⌝ }
+    ensures { λ r. ⌜ Tries (FirstOf (keyAt key size (now (records .entry))) (λ u. u) n n) r ⌝ }
+{
+    let mut list = [0u16; MOST];
+    let mut counts = [0u16; COUNTS];
+    let mut other = [0u16; MOST];
+    list_all(&mut list, n);
+    first_by_order(records, size, key, n, n, &mut list, &mut counts, &mut other)
 }
 
 // At most LARGE with arrays for these.
@@ -140,8 +159,8 @@ fn tried_large(records: &[u8], size: usize, key: Key, n: usize) -> Tried
     first_large(records, size, key, n)
 }
 
-// The first of n records that repeats an earlier one, with arrays for at most LARGE or MOST. The order always answers; that it does is not
-// proved, and nothing but the time depends on it.
+// The first of n records that repeats an earlier one, with arrays for at most LARGE or MOST. The order of all always answers; that it does
+// is not proved, and nothing but the time depends on it.
 fn first_by_most(records: &[u8], size: usize, key: Key, n: usize) -> Found
     requires { ⌜ Keyed key size (now records) n ⌝ }
     ensures { λ r. ⌜ r ≡ first (repeating (sameKeyIn key size (now (records .entry)))) n ⌝ }
@@ -153,6 +172,12 @@ fn first_by_most(records: &[u8], size: usize, key: Key, n: usize) -> Found
         Tried::Unanswered => {}
     }
     match first_of_most(records, size, key, n) {
+        Tried::Answered(i) => {
+            return found_at(i, n);
+        }
+        Tried::Unanswered => {}
+    }
+    match first_of_all(records, size, key, n) {
         Tried::Answered(i) => {
             return found_at(i, n);
         }

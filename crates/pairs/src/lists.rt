@@ -17,6 +17,18 @@ pub(crate) fn copy(from: &[u16], to: &mut [u16], m: usize)
     }
 }
 
+// Lists the first m records.
+pub(crate) fn list_all(list: &mut [u16], m: usize)
+    requires { ⌜ (m ≤ length (now list)) × (m ≤ 65_536) ⌝ }
+    ensures { λ _. ⌜ Filled 0 (λ u. u) m (now (list .exit)) ⌝ }
+{
+    let mut u = 0;
+    while u < m {
+        list[u] = u as u16;
+        u += 1;
+    }
+}
+
 // Makes all entries 0.
 pub(crate) fn clear(list: &mut [u16])
     ensures { λ _. ⌜ Zeros (now (list .exit)) ⌝ }

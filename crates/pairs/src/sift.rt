@@ -1,6 +1,6 @@
-// Sifting a list of records: each has its place by its key, and the first to come there stays. One that comes later has the same key, and
-// then repeats it, or another, and then is left in the list. All records with one key have one place: so of those that are left none
-// repeats one that stayed, and they can be sifted anew by other places, until none is left.
+// Sifting a list of records: each has two places by its key, and stays at the first of them that is empty. One that finds its key there
+// repeats the record that has it; one that finds other keys at both is left in the list. All records with one key have the same places: so
+// of those that are left none repeats one that stayed, and they can be sifted anew by other places, until none is left.
 use crate::keys::Key;
 use crate::keys::WORD;
 use crate::keys::key_at;
@@ -8,6 +8,7 @@ use crate::keys::smaller;
 use crate::keys::wide;
 use crate::lists::clear;
 ghost use mathlib.Core.Path.{_≡_};
+ghost use mathlib.Core.Bool.{true};
 ghost use Prim.Native.Nat.{_*_, _≤_, _<_};
 ghost use lib.ListN.{length};
 ghost use Rattle.pairs.specs.Keys.{keyAt, most, word};
@@ -23,10 +24,11 @@ const UPPER: u64 = 1_973_900_851;
 // An odd factor, by which they change where a list is sifted anew.
 const ANEW: u64 = 2_246_822_519;
 
-// The first record that repeats another, or the number of all, and how many are left.
+// The first record that repeats another, or the number of all; how many are left, and whether the list has them all.
 pub struct Sifted {
     pub found: usize,
     pub left: usize,
+    pub whole: bool,
 }
 
 // The place of a key among so many: of its lower half times a number and its upper half times another, the highest of 32 bits choose it.
@@ -41,13 +43,14 @@ fn place_of(x: u64, lower: u64, upper: u64, places: usize) -> usize
 
 // An entry of a list, or without one the index itself.
 fn index_at(list: &[u16], listed: bool, t: usize) -> usize
-    requires { ⌜ (t < length (now list)) × (t ≤ most) ⌝ }
+    requires { ⌜ (listed ≡ true → t < length (now list)) × (t ≤ most) ⌝ }
     ensures { λ r. ⌜ r ≡ indexAt listed (now (list .entry)) t ⌝ }
 {
     if listed { wide(list[t]) } else { t }
 }
 
-// Sifts m records of n, by places that are empty: those in a list, or the first without one. The list then has those that are left.
+// Sifts m records of n, by places that are empty: those in a list, or the first without one. The list then has those that are left, unless
+// it is too short for them.
 fn sift(
     records: &[u8],
     size: usize,
@@ -60,76 +63,45 @@ fn sift(
     upper: u64,
     place: &mut [u16],
 ) -> Sifted
-    requires { ⌜ (Keyed key size (now records) n) × (Rising n m (indexAt listed (now list))) × (m ≤ length (now list)) × (m ≤ most)
-        × (0 < length (now place)) × (length (now place) ≤ 4 * most) × (Zeros (now place)) × (lower < word) × (upper < word) ⌝ }
-    ensures { λ r. ⌜ Sifts (keyAt key size (now (records .entry))) n m (indexAt listed (now (list .entry))) (now (list .exit))
-        (r .found) (r .left) ⌝ }
+    requires { ⌜ (Keyed key size (now records) n) × (Rising n m (indexAt listed (now list))) × (listed ≡ true → m ≤ length (now list))
+        × (m ≤ most) × (0 < length (now place)) × (length (now place) ≤ 4 * most) × (Zeros (now place)) × (lower < word) × (upper < word) ⌝ }
+    ensures { λ r. ⌜ (r .left ≤ length (now (list .exit))) × (r .whole ≡ true → Sifts (keyAt key size (now (records .entry))) n m
+        (indexAt listed (now (list .entry))) (now (list .exit)) (r .found) (r .left)) ⌝ }
 {
     let mut left = 0;
     let mut t = 0;
     while t < m {
         let i = index_at(list, listed, t);
         let x = key_at(records, size, key, i);
-        let at = place_of(x, lower, upper, place.len());
-        let held = wide(place[at]);
+        let first = place_of(x, lower, upper, place.len());
+        let held = wide(place[first]);
         t += 1;
         if held == 0 {
-            place[at] = (i + 1) as u16;
+            place[first] = (i + 1) as u16;
             continue;
         }
         if key_at(records, size, key, held - 1) == x {
-            return Sifted { found: i, left };
+            return Sifted { found: i, left, whole: true };
+        }
+        let second = place_of(x, upper, lower, place.len());
+        let holds = wide(place[second]);
+        if holds == 0 {
+            place[second] = (i + 1) as u16;
+            continue;
+        }
+        if key_at(records, size, key, holds - 1) == x {
+            return Sifted { found: i, left, whole: true };
+        }
+        if list.len() <= left {
+            return Sifted { found: n, left, whole: false };
         }
         list[left] = i as u16;
         left += 1;
     }
-    Sifted { found: n, left }
+    Sifted { found: n, left, whole: true }
 }
 
-// Whether so many that are left of n are few. No answer depends on it.
-fn are_few(left: usize, n: usize) -> bool
-    ensures { λ _. ⊤ₛ }
-{
-    left <= n / 4 + 32
-}
-
-// Sifts n records, and where not few are left these anew.
-fn sift_twice(
-    records: &[u8],
-    size: usize,
-    key: Key,
-    n: usize,
-    list: &mut [u16],
-    place: &mut [u16],
-) -> Sifted
-    requires { ⌜ (Keyed key size (now records) n) × (n ≤ length (now list)) × (0 < length (now place)) × (length (now place) ≤ 4 * most)
-        × Zeros (now place) ⌝ }
-    ensures { λ r. ⌜ Sifts (keyAt key size (now (records .entry))) n n (λ u. u) (now (list .exit)) (r .found) (r .left) ⌝ }
-{
-    let once = sift(records, size, key, n, list, false, n, LOWER, UPPER, place);
-    if are_few(once.left, n) {
-        return once;
-    }
-    clear(place);
-    let again = sift(
-        records,
-        size,
-        key,
-        n,
-        list,
-        true,
-        once.left,
-        ANEW,
-        LOWER,
-        place,
-    );
-    Sifted {
-        found: smaller(again.found, once.found),
-        left: again.left,
-    }
-}
-
-// Sifts n records. Where few are left, they are sifted anew, at most four times.
+// Sifts n records, and those that are left anew, at most twice.
 pub(crate) fn sift_all(
     records: &[u8],
     size: usize,
@@ -139,27 +111,27 @@ pub(crate) fn sift_all(
     place: &mut [u16],
     other: &mut [u16],
 ) -> Sifted
-    requires { ⌜ (Keyed key size (now records) n) × (n ≤ length (now list)) × (0 < length (now place)) × (length (now place) ≤ 4 * most)
-        × (Zeros (now place)) × (0 < length (now other)) × (length (now other) ≤ 4 * most) ⌝ }
-    ensures { λ r. ⌜ Sifts (keyAt key size (now (records .entry))) n n (λ u. u) (now (list .exit)) (r .found) (r .left) ⌝ }
+    requires { ⌜ (Keyed key size (now records) n) × (0 < length (now place)) × (length (now place) ≤ 4 * most) × (Zeros (now place))
+        × (0 < length (now other)) × (length (now other) ≤ 4 * most) ⌝ }
+    ensures { λ r. ⌜ (r .left ≤ length (now (list .exit))) × (r .whole ≡ true → Sifts (keyAt key size (now (records .entry))) n n (λ u. u)
+        (now (list .exit)) (r .found) (r .left)) ⌝ }
 {
-    let s = sift_twice(records, size, key, n, list, place);
-    let mut found = s.found;
-    let mut left = s.left;
+    let once = sift(records, size, key, n, list, false, n, LOWER, UPPER, place);
+    let mut found = once.found;
+    let mut left = once.left;
+    let mut whole = once.whole;
     let mut lower = LOWER;
     let mut upper = UPPER;
     let mut turns = 0usize;
-    while turns < 4 {
-        if (left == 0) | !are_few(left, n) {
-            return Sifted { found, left };
-        }
+    while (turns < 2) & whole & (0 < left) {
         clear(other);
         lower = lower * ANEW % WORD;
         upper = upper * LOWER % WORD;
         let again = sift(records, size, key, n, list, true, left, lower, upper, other);
         found = smaller(again.found, found);
         left = again.left;
+        whole = again.whole;
         turns += 1;
     }
-    Sifted { found, left }
+    Sifted { found, left, whole }
 }
