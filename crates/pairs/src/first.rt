@@ -31,16 +31,16 @@ const MIDDLE: usize = 512;
 
 const LARGE: usize = 1_024;
 
-// Three or four places for each record, so that few records are left.
-const SMALL_PLACES: usize = 4 * SMALL;
+// Eight places for each record, or four, so that few records are left.
+const SMALL_PLACES: usize = 8 * SMALL;
 
-const SHORT_PLACES: usize = 4 * SHORT;
+const SHORT_PLACES: usize = 8 * SHORT;
 
-const MIDDLE_PLACES: usize = 4 * MIDDLE;
+const MIDDLE_PLACES: usize = 8 * MIDDLE;
 
-const LARGE_PLACES: usize = 4 * LARGE;
+const LARGE_PLACES: usize = 8 * LARGE;
 
-const MOST_PLACES: usize = 3 * MOST;
+const MOST_PLACES: usize = 4 * MOST;
 
 // Counts for the digits of four passes.
 const COUNTS: usize = 4_096;

@@ -101,6 +101,25 @@ fn sift(
     Sifted { found: n, left, whole: true }
 }
 
+// Sifts n records by places that are empty, with a loop of its own for each width of keys.
+fn sift_once(
+    records: &[u8],
+    size: usize,
+    key: Key,
+    n: usize,
+    list: &mut [u16],
+    place: &mut [u16],
+) -> Sifted
+    requires { ⌜ (Keyed key size (now records) n) × (0 < length (now place)) × (length (now place) ≤ 4 * most) × Zeros (now place) ⌝ }
+    ensures { λ r. ⌜ (r .left ≤ length (now (list .exit))) × (r .whole ≡ true → Sifts (keyAt key size (now (records .entry))) n n (λ u. u)
+        (now (list .exit)) (r .found) (r .left)) ⌝ }
+{
+    match key {
+        Key::Four => sift(records, size, Key::Four, n, list, false, n, LOWER, UPPER, place),
+        Key::Eight => sift(records, size, Key::Eight, n, list, false, n, LOWER, UPPER, place),
+    }
+}
+
 // Sifts n records, and those that are left anew, at most twice.
 pub(crate) fn sift_all(
     records: &[u8],
@@ -116,7 +135,7 @@ pub(crate) fn sift_all(
     ensures { λ r. ⌜ (r .left ≤ length (now (list .exit))) × (r .whole ≡ true → Sifts (keyAt key size (now (records .entry))) n n (λ u. u)
         (now (list .exit)) (r .found) (r .left)) ⌝ }
 {
-    let once = sift(records, size, key, n, list, false, n, LOWER, UPPER, place);
+    let once = sift_once(records, size, key, n, list, place);
     let mut found = once.found;
     let mut left = once.left;
     let mut whole = once.whole;

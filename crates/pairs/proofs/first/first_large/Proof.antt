@@ -1,4 +1,4 @@
--- Four places for each record start empty.
+-- Eight places for each record start empty.
 use native.Mathlib.Omega.{arith}
 use Rattle.pairs.proofs.Trees.{zeros}
 use borrow.Author.Needs.{needs}
@@ -6,7 +6,7 @@ use Rattle.pairs.proofs.first.first_large.Statement.{statement}
 use Rattle.pairs.proofs.first.first_large.Tie as tie
 
 first-in-requires : tie.Need-first-in-requires
-first-in-requires c κs = let p = c .before .before .before .before .pre in (p .0, omega arith, omega arith, zeros 4096, omega arith, omega arith)
+first-in-requires c κs = let p = c .before .before .before .before .pre in (p .0, omega arith, omega arith, zeros 8192, omega arith, omega arith)
 
 pub first-large-spec : {M : Type 1} → statement M
 first-large-spec =

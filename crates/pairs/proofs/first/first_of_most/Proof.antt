@@ -16,7 +16,7 @@ slice-aggregate-sift-all-3 : tie.Need-slice-aggregate-sift-all-3
 slice-aggregate-sift-all-3 c = search needs
 
 sift-all-requires : tie.Need-sift-all-requires
-sift-all-requires c κs = (c .before .before .before .before .pre, omega arith, omega arith, zeros 12288, omega arith, omega arith)
+sift-all-requires c κs = (c .before .before .before .before .pre, omega arith, omega arith, zeros 16384, omega arith, omega arith)
 
 returns : tie.Need-returns
 returns c = search needs

@@ -28,11 +28,11 @@ taken-turns turns left whole h = ltb-true turns 2 (and-left (ltb turns 2) whole 
 taken-whole : (turns left : ℕ) (whole : Bool) → (ltb turns 2 && whole && ltb 0 left) ≡ true → whole ≡ true
 taken-whole turns left whole h = and-right (ltb turns 2) whole (and-left (ltb turns 2 && whole) (ltb 0 left) h)
 
-sift-requires : tie.Need-sift-requires Inv-loop μ-loop
-sift-requires c κs = (c .before .before .before .before .before .before .pre .0, record { below = λ u h. h; rising = λ u v h k. h }, λ q. absurd (false≢true q), c .before .before .before .before .before .before .pre .0 .few, c .before .before .before .before .before .before .pre .1, c .before .before .before .before .before .before .pre .2, c .before .before .before .before .before .before .pre .3, omega arith, omega arith)
+sift-once-requires : tie.Need-sift-once-requires Inv-loop μ-loop
+sift-once-requires c κs = search needs
 
 loop-holds : tie.Need-loop-holds Inv-loop μ-loop
-loop-holds c = (refl, refl, c .before .before .before .before .sift .ensures .0, c .before .before .before .before .sift .ensures .1, omega arith, omega arith)
+loop-holds c = (refl, refl, c .before .before .before .before .sift-once .ensures .0, c .before .before .before .before .sift-once .ensures .1, omega arith, omega arith)
 
 clear-requires : tie.Need-clear-requires Inv-loop μ-loop
 clear-requires c κs = search needs
@@ -43,8 +43,8 @@ mul-lower c = omega (arith, c .before .before .before .before .before .loop .inv
 mul-upper : tie.Need-mul-upper Inv-loop μ-loop
 mul-upper c = omega (arith, c .before .before .before .before .before .loop .inv .5)
 
-sift-requires-2 : tie.Need-sift-requires-2 Inv-loop μ-loop
-sift-requires-2 c κs = let w = c .before .before .before .before .before .before .before .loop .inv .3 (taken-whole (c .before .before .before .before .before .before .before .loop .turns) (c .before .before .before .before .before .before .before .loop .left) (c .before .before .before .before .before .before .before .loop .whole) (c .before .before .before .before .before .before .loop-test .taken)) in (c .before .before .before .before .before .before .before .before .before .before .before .before .before .before .before .before .before .before .before .pre .0, w .listed, λ q. c .before .before .before .before .before .before .before .loop .inv .2, omega (arith, w .fewer, c .before .before .before .before .before .before .before .before .before .before .before .before .before .before .before .before .before .before .before .pre .0 .few), omega (arith, c .before .before .before .other .given, c .before .before .before .before .before .before .before .loop .inv .1, c .before .before .before .before .before .before .before .before .before .before .before .before .before .before .before .before .before .before .before .pre .4), omega (arith, c .before .before .before .other .given, c .before .before .before .before .before .before .before .loop .inv .1, c .before .before .before .before .before .before .before .before .before .before .before .before .before .before .before .before .before .before .before .pre .5), c .before .before .before .before .clear .ensures, omega arith, omega arith)
+sift-requires : tie.Need-sift-requires Inv-loop μ-loop
+sift-requires c κs = let w = c .before .before .before .before .before .before .before .loop .inv .3 (taken-whole (c .before .before .before .before .before .before .before .loop .turns) (c .before .before .before .before .before .before .before .loop .left) (c .before .before .before .before .before .before .before .loop .whole) (c .before .before .before .before .before .before .loop-test .taken)) in (c .before .before .before .before .before .before .before .before .before .before .before .before .before .before .before .before .before .before .before .pre .0, w .listed, λ q. c .before .before .before .before .before .before .before .loop .inv .2, omega (arith, w .fewer, c .before .before .before .before .before .before .before .before .before .before .before .before .before .before .before .before .before .before .before .pre .0 .few), omega (arith, c .before .before .before .other .given, c .before .before .before .before .before .before .before .loop .inv .1, c .before .before .before .before .before .before .before .before .before .before .before .before .before .before .before .before .before .before .before .pre .4), omega (arith, c .before .before .before .other .given, c .before .before .before .before .before .before .before .loop .inv .1, c .before .before .before .before .before .before .before .before .before .before .before .before .before .before .before .before .before .before .before .pre .5), c .before .before .before .before .clear .ensures, omega arith, omega arith)
 
 smaller-requires : tie.Need-smaller-requires Inv-loop μ-loop
 smaller-requires c κs = search needs
@@ -56,7 +56,7 @@ loop-less : tie.Need-loop-less Inv-loop μ-loop
 loop-less c = omega (arith, taken-turns (c .before .before .before .before .before .before .before .before .before .before .before .before .before .loop .turns) (c .before .before .before .before .before .before .before .before .before .before .before .before .before .loop .left) (c .before .before .before .before .before .before .before .before .before .before .before .before .before .loop .whole) (c .before .before .before .before .before .before .before .before .before .before .before .before .loop-test .taken))
 
 loop-again : tie.Need-loop-again Inv-loop μ-loop
-loop-again c = (c .before .before .before .before .list2 .given ∙ c .before .before .before .before .before .before .before .before .before .before .before .before .before .loop .inv .0, c .before .before .other2 .given ∙ c .before .before .before .before .before .before .before .before .before .other .given ∙ c .before .before .before .before .before .before .before .before .before .before .before .before .before .loop .inv .1, c .before .before .before .before .before .sift2 .ensures .0, λ q. rw (c .smaller .ensures) (sifts-sifts (c .before .before .before .before .before .before .before .before .before .before .before .before .before .loop .inv .3 (taken-whole (c .before .before .before .before .before .before .before .before .before .before .before .before .before .loop .turns) (c .before .before .before .before .before .before .before .before .before .before .before .before .before .loop .left) (c .before .before .before .before .before .before .before .before .before .before .before .before .before .loop .whole) (c .before .before .before .before .before .before .before .before .before .before .before .before .loop-test .taken))) (c .before .before .before .before .before .sift2 .ensures .1 q)), omega arith, omega arith)
+loop-again c = (c .before .before .before .before .list2 .given ∙ c .before .before .before .before .before .before .before .before .before .before .before .before .before .loop .inv .0, c .before .before .other2 .given ∙ c .before .before .before .before .before .before .before .before .before .other .given ∙ c .before .before .before .before .before .before .before .before .before .before .before .before .before .loop .inv .1, c .before .before .before .before .before .sift .ensures .0, λ q. rw (c .smaller .ensures) (sifts-sifts (c .before .before .before .before .before .before .before .before .before .before .before .before .before .loop .inv .3 (taken-whole (c .before .before .before .before .before .before .before .before .before .before .before .before .before .loop .turns) (c .before .before .before .before .before .before .before .before .before .before .before .before .before .loop .left) (c .before .before .before .before .before .before .before .before .before .before .before .before .before .loop .whole) (c .before .before .before .before .before .before .before .before .before .before .before .before .loop-test .taken))) (c .before .before .before .before .before .sift .ensures .1 q)), omega arith, omega arith)
 
 same-length : tie.Need-same-length Inv-loop μ-loop
 same-length c = c .before .loop .inv .0 ∙ c .before .before .before .before .before .list .given
@@ -76,12 +76,12 @@ sift-all-spec =
     (tie.spec
     Inv-loop
     μ-loop
-    sift-requires
+    sift-once-requires
     loop-holds
     clear-requires
     mul-lower
     mul-upper
-    sift-requires-2
+    sift-requires
     smaller-requires
     add-turns
     loop-less
