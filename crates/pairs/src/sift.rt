@@ -8,7 +8,7 @@ use crate::keys::smaller;
 use crate::keys::wide;
 use crate::lists::clear;
 ghost use mathlib.Core.Path.{_≡_};
-ghost use mathlib.Core.Bool.{true};
+ghost use mathlib.Core.Bool.{true, false};
 ghost use Prim.Native.Nat.{_*_, _≤_, _<_};
 ghost use lib.ListN.{length};
 ghost use Rattle.pairs.specs.Keys.{keyAt, most, word};
@@ -49,8 +49,17 @@ fn index_at(list: &[u16], listed: bool, t: usize) -> usize
     if listed { wide(list[t]) } else { t }
 }
 
+// Whether to give up after t of m records: the list is full, or many are left and few of those that came stay, so that to put all records
+// in order takes less time. No answer depends on it.
+fn gives_up(left: usize, t: usize, m: usize, room: usize) -> bool
+    requires { ⌜ (left ≤ t) × (t ≤ m) × (m ≤ most) ⌝ }
+    ensures { λ r. ⌜ (r ≡ false → left < room) ⌝ }
+{
+    (room <= left) | ((256 < left) & (2 * (t - left) < m - t))
+}
+
 // Sifts m records of n, by places that are empty: those in a list, or the first without one. The list then has those that are left, unless
-// it is too short for them.
+// it gives up.
 fn sift(
     records: &[u8],
     size: usize,
@@ -92,7 +101,7 @@ fn sift(
         if key_at(records, size, key, holds - 1) == x {
             return Sifted { found: i, left, whole: true };
         }
-        if list.len() <= left {
+        if gives_up(left, t, m, list.len()) {
             return Sifted { found: n, left, whole: false };
         }
         list[left] = i as u16;
@@ -120,7 +129,14 @@ fn sift_once(
     }
 }
 
-// Sifts n records, and those that are left anew, at most twice.
+// Whether some are left of n, and few. No answer depends on it.
+fn are_few(left: usize, n: usize) -> bool
+    ensures { λ _. ⊤ₛ }
+{
+    (0 < left) & (left <= n / 4)
+}
+
+// Sifts n records, and where few are left these anew, at most twice.
 pub(crate) fn sift_all(
     records: &[u8],
     size: usize,
@@ -142,7 +158,7 @@ pub(crate) fn sift_all(
     let mut lower = LOWER;
     let mut upper = UPPER;
     let mut turns = 0usize;
-    while (turns < 2) & whole & (0 < left) {
+    while (turns < 2) & whole & are_few(left, n) {
         clear(other);
         lower = lower * ANEW % WORD;
         upper = upper * LOWER % WORD;

@@ -122,32 +122,35 @@ same-length-4 c = c .before .before .before .before .before .before .before .bef
 returns-2 : tie.Need-returns-2 Inv-loop μ-loop
 returns-2 c = let f : getD (c .before .before .before .before .before .before .before .before .before .before .before .before .before .before .before .before .loop .place) (c .before .before .before .before .before .place-of2 .result) 0 ≡ suc (c .before .before .before .wide2 .result - 1) = omega (arith, c .before .before .before .wide2 .ensures, c .before .before .if3 .left) in (omega (arith, c .before .before .before .before .before .before .before .before .before .before .before .before .before .before .before .before .loop .inv .3, c .before .before .before .before .before .before .before .before .before .before .before .before .before .before .before .before .loop .inv .1), λ _. sifted-found (c .before .before .before .before .before .before .before .before .before .before .before .before .before .before .before .before .loop .inv .4) (c .before .before .before .before .before .before .before .before .before .before .before .before .before .before .before .before .before .before .before .before .pre .1 .rising) (c .before .before .before .before .before .before .before .before .before .before .before .before .before .before .before .before .before .before .before .before .pre .1 .below) (c .before .before .before .before .before .place-of2 .result) (c .before .before .before .wide2 .result - 1) (c .before .before .before .before .before .before .before .before .before .before .before .before .before .before .before .loop-test .taken) (c .before .before .before .before .before .before .before .before .before .before .before .before .before .index-at .ensures ∙ c .before .before .before .before .before .before .before .before .before .before .before .before .before .before .before .before .loop .inv .4 .tail (c .before .before .before .before .before .before .before .before .before .before .before .before .before .before .before .before .loop .t) (omega arith)) f (sym (c .before .key-at3 .ensures) ∙ c .if4 .taken ∙ c .before .before .before .before .before .before .before .before .before .before .before .before .key-at .ensures))
 
+gives-up-requires : tie.Need-gives-up-requires Inv-loop μ-loop
+gives-up-requires c κs = (omega (arith, c .before .before .before .before .before .before .before .before .before .before .before .before .before .before .before .before .loop .inv .4 .fewer), omega (arith, c .before .before .before .before .before .before .before .before .before .before .before .before .before .before .before .loop-test .taken), c .before .before .before .before .before .before .before .before .before .before .before .before .before .before .before .before .before .before .before .before .pre .3)
+
 same-length-5 : tie.Need-same-length-5 Inv-loop μ-loop
-same-length-5 c = c .before .before .before .before .before .before .before .before .before .before .before .before .before .before .before .before .before .loop .inv .1
+same-length-5 c = c .before .before .before .before .before .before .before .before .before .before .before .before .before .before .before .before .before .before .loop .inv .1
 
 same-length-6 : tie.Need-same-length-6 Inv-loop μ-loop
-same-length-6 c = c .before .before .before .before .before .before .before .before .before .before .before .before .before .before .before .before .before .loop .inv .2
+same-length-6 c = c .before .before .before .before .before .before .before .before .before .before .before .before .before .before .before .before .before .before .loop .inv .2
 
 returns-3 : tie.Need-returns-3 Inv-loop μ-loop
-returns-3 c = (omega (arith, c .before .before .before .before .before .before .before .before .before .before .before .before .before .before .before .before .before .loop .inv .3, c .before .before .before .before .before .before .before .before .before .before .before .before .before .before .before .before .before .loop .inv .1), λ q. absurd (false≢true q))
+returns-3 c = (omega (arith, c .before .before .before .before .before .before .before .before .before .before .before .before .before .before .before .before .before .before .loop .inv .3, c .before .before .before .before .before .before .before .before .before .before .before .before .before .before .before .before .before .before .loop .inv .1), λ q. absurd (false≢true q))
 
 cast-list : tie.Need-cast-list Inv-loop μ-loop
-cast-list c = omega (arith, c .before .before .before .before .before .before .before .before .before .before .before .before .before .before .before .before .before .before .before .before .before .pre .1 .below _ (c .before .before .before .before .before .before .before .before .before .before .before .before .before .before .before .before .loop-test .taken), c .before .before .before .before .before .before .before .before .before .before .before .before .before .before .before .before .before .before .before .before .before .pre .0 .few, (c .before .before .before .before .before .before .before .before .before .before .before .before .before .before .index-at .ensures ∙ c .before .before .before .before .before .before .before .before .before .before .before .before .before .before .before .before .before .loop .inv .4 .tail (c .before .before .before .before .before .before .before .before .before .before .before .before .before .before .before .before .before .loop .t) (omega arith)))
+cast-list c = omega (arith, c .before .before .before .before .before .before .before .before .before .before .before .before .before .before .before .before .before .before .before .before .before .before .pre .1 .below _ (c .before .before .before .before .before .before .before .before .before .before .before .before .before .before .before .before .before .loop-test .taken), c .before .before .before .before .before .before .before .before .before .before .before .before .before .before .before .before .before .before .before .before .before .before .pre .0 .few, (c .before .before .before .before .before .before .before .before .before .before .before .before .before .before .before .index-at .ensures ∙ c .before .before .before .before .before .before .before .before .before .before .before .before .before .before .before .before .before .before .loop .inv .4 .tail (c .before .before .before .before .before .before .before .before .before .before .before .before .before .before .before .before .before .before .loop .t) (omega arith)))
 
 mul-list : tie.Need-mul-list Inv-loop μ-loop
 mul-list c = search needs
 
 slice-write-list : tie.Need-slice-write-list Inv-loop μ-loop
-slice-write-list c = omega (arith, c .if5 .left)
+slice-write-list c = c .before .gives-up .ensures (c .if5 .left)
 
 add-left : tie.Need-add-left Inv-loop μ-loop
-add-left c = omega (arith, c .before .before .before .before .before .before .before .before .before .before .before .before .before .before .before .before .before .loop .inv .4 .fewer, c .before .before .before .before .before .before .before .before .before .before .before .before .before .before .before .before .loop-test .taken, c .before .before .before .before .before .before .before .before .before .before .before .before .before .before .before .before .before .before .before .before .before .pre .3)
+add-left c = omega (arith, c .before .before .before .before .before .before .before .before .before .before .before .before .before .before .before .before .before .before .loop .inv .4 .fewer, c .before .before .before .before .before .before .before .before .before .before .before .before .before .before .before .before .before .loop-test .taken, c .before .before .before .before .before .before .before .before .before .before .before .before .before .before .before .before .before .before .before .before .before .before .pre .3)
 
 loop-less-3 : tie.Need-loop-less-3 Inv-loop μ-loop
-loop-less-3 c = omega (arith, c .before .before .before .before .before .before .before .before .before .before .before .before .before .before .before .before .loop-test .taken)
+loop-less-3 c = omega (arith, c .before .before .before .before .before .before .before .before .before .before .before .before .before .before .before .before .before .loop-test .taken)
 
 loop-again-3 : tie.Need-loop-again-3 Inv-loop μ-loop
-loop-again-3 c = let e : getD (c .before .before .before .before .before .before .before .before .before .before .before .before .before .before .before .before .before .loop .place) (c .before .before .before .before .before .before .before .before .before .before .before .before .place-of .result) 0 ≡ suc (c .before .before .before .before .before .before .before .before .before .before .wide .result - 1) = omega (arith, c .before .before .before .before .before .before .before .before .before .before .wide .ensures, c .before .before .before .before .before .before .before .before .before .if1 .left) in let f : getD (c .before .before .before .before .before .before .before .before .before .before .before .before .before .before .before .before .before .loop .place) (c .before .before .before .before .before .before .place-of2 .result) 0 ≡ suc (c .before .before .before .before .wide2 .result - 1) = omega (arith, c .before .before .before .before .wide2 .ensures, c .before .before .before .if3 .left) in (omega (arith, c .before .before .before .before .before .before .before .before .before .before .before .before .before .before .before .before .loop-test .taken), simp length-set (c .before .before .before .before .before .before .before .before .before .before .before .before .before .before .before .before .before .loop .inv .1), c .before .before .before .before .before .before .before .before .before .before .before .before .before .before .before .before .before .loop .inv .2, omega (arith, c .if5 .left, c .before .before .before .before .before .before .before .before .before .before .before .before .before .before .before .before .before .loop .inv .1), leave (c .before .before .before .before .before .before .before .before .before .before .before .before .before .before .before .before .before .loop .inv .4) (c .before .before .before .before .before .before .before .before .before .before .before .before .before .before .index-at .ensures ∙ c .before .before .before .before .before .before .before .before .before .before .before .before .before .before .before .before .before .loop .inv .4 .tail (c .before .before .before .before .before .before .before .before .before .before .before .before .before .before .before .before .before .loop .t) (omega arith)) (another-at (c .before .before .before .before .before .before .before .before .before .before .before .before .place-of .ensures .0 ∙ ap₂ (placeOf (c .before .before .before .before .before .before .before .before .before .before .before .before .before .before .before .before .before .before .before .before .before .args .lower) (c .before .before .before .before .before .before .before .before .before .before .before .before .before .before .before .before .before .before .before .before .before .args .upper)) (c .before .before .before .before .before .before .before .before .before .before .before .before .before .before .before .before .before .loop .inv .2) (c .before .before .before .before .before .before .before .before .before .before .before .before .before .key-at .ensures)) (another e (λ q. c .before .before .before .before .before .before .before .if2 .left (c .before .before .before .before .before .before .before .before .key-at2 .ensures ∙ q ∙ sym (c .before .before .before .before .before .before .before .before .before .before .before .before .before .key-at .ensures))))) (another-at (c .before .before .before .before .before .before .place-of2 .ensures .0 ∙ ap₂ (placeOf (c .before .before .before .before .before .before .before .before .before .before .before .before .before .before .before .before .before .before .before .before .before .args .upper) (c .before .before .before .before .before .before .before .before .before .before .before .before .before .before .before .before .before .before .before .before .before .args .lower)) (c .before .before .before .before .before .before .before .before .before .before .before .before .before .before .before .before .before .loop .inv .2) (c .before .before .before .before .before .before .before .before .before .before .before .before .before .key-at .ensures)) (another f (λ q. c .before .if4 .left (c .before .before .key-at3 .ensures ∙ q ∙ sym (c .before .before .before .before .before .before .before .before .before .before .before .before .before .key-at .ensures))))) (omega (arith, c .if5 .left)) (λ u k. c .before .before .before .before .before .before .before .before .before .before .before .before .before .before .before .before .before .before .before .before .before .pre .1 .rising u (c .before .before .before .before .before .before .before .before .before .before .before .before .before .before .before .before .before .loop .t) k (c .before .before .before .before .before .before .before .before .before .before .before .before .before .before .before .before .loop-test .taken)))
+loop-again-3 c = let e : getD (c .before .before .before .before .before .before .before .before .before .before .before .before .before .before .before .before .before .before .loop .place) (c .before .before .before .before .before .before .before .before .before .before .before .before .before .place-of .result) 0 ≡ suc (c .before .before .before .before .before .before .before .before .before .before .before .wide .result - 1) = omega (arith, c .before .before .before .before .before .before .before .before .before .before .before .wide .ensures, c .before .before .before .before .before .before .before .before .before .before .if1 .left) in let f : getD (c .before .before .before .before .before .before .before .before .before .before .before .before .before .before .before .before .before .before .loop .place) (c .before .before .before .before .before .before .before .place-of2 .result) 0 ≡ suc (c .before .before .before .before .before .wide2 .result - 1) = omega (arith, c .before .before .before .before .before .wide2 .ensures, c .before .before .before .before .if3 .left) in (omega (arith, c .before .before .before .before .before .before .before .before .before .before .before .before .before .before .before .before .before .loop-test .taken), simp length-set (c .before .before .before .before .before .before .before .before .before .before .before .before .before .before .before .before .before .before .loop .inv .1), c .before .before .before .before .before .before .before .before .before .before .before .before .before .before .before .before .before .before .loop .inv .2, omega (arith, c .before .gives-up .ensures (c .if5 .left), c .before .before .before .before .before .before .before .before .before .before .before .before .before .before .before .before .before .before .loop .inv .1), leave (c .before .before .before .before .before .before .before .before .before .before .before .before .before .before .before .before .before .before .loop .inv .4) (c .before .before .before .before .before .before .before .before .before .before .before .before .before .before .before .index-at .ensures ∙ c .before .before .before .before .before .before .before .before .before .before .before .before .before .before .before .before .before .before .loop .inv .4 .tail (c .before .before .before .before .before .before .before .before .before .before .before .before .before .before .before .before .before .before .loop .t) (omega arith)) (another-at (c .before .before .before .before .before .before .before .before .before .before .before .before .before .place-of .ensures .0 ∙ ap₂ (placeOf (c .before .before .before .before .before .before .before .before .before .before .before .before .before .before .before .before .before .before .before .before .before .before .args .lower) (c .before .before .before .before .before .before .before .before .before .before .before .before .before .before .before .before .before .before .before .before .before .before .args .upper)) (c .before .before .before .before .before .before .before .before .before .before .before .before .before .before .before .before .before .before .loop .inv .2) (c .before .before .before .before .before .before .before .before .before .before .before .before .before .before .key-at .ensures)) (another e (λ q. c .before .before .before .before .before .before .before .before .if2 .left (c .before .before .before .before .before .before .before .before .before .key-at2 .ensures ∙ q ∙ sym (c .before .before .before .before .before .before .before .before .before .before .before .before .before .before .key-at .ensures))))) (another-at (c .before .before .before .before .before .before .before .place-of2 .ensures .0 ∙ ap₂ (placeOf (c .before .before .before .before .before .before .before .before .before .before .before .before .before .before .before .before .before .before .before .before .before .before .args .upper) (c .before .before .before .before .before .before .before .before .before .before .before .before .before .before .before .before .before .before .before .before .before .before .args .lower)) (c .before .before .before .before .before .before .before .before .before .before .before .before .before .before .before .before .before .before .loop .inv .2) (c .before .before .before .before .before .before .before .before .before .before .before .before .before .before .key-at .ensures)) (another f (λ q. c .before .before .if4 .left (c .before .before .before .key-at3 .ensures ∙ q ∙ sym (c .before .before .before .before .before .before .before .before .before .before .before .before .before .before .key-at .ensures))))) (c .before .gives-up .ensures (c .if5 .left)) (λ u k. c .before .before .before .before .before .before .before .before .before .before .before .before .before .before .before .before .before .before .before .before .before .before .pre .1 .rising u (c .before .before .before .before .before .before .before .before .before .before .before .before .before .before .before .before .before .before .loop .t) k (c .before .before .before .before .before .before .before .before .before .before .before .before .before .before .before .before .before .loop-test .taken)))
 
 same-length-7 : tie.Need-same-length-7 Inv-loop μ-loop
 same-length-7 c = c .before .loop .inv .1
@@ -198,6 +201,7 @@ sift-spec =
     same-length-3
     same-length-4
     returns-2
+    gives-up-requires
     same-length-5
     same-length-6
     returns-3

@@ -1,7 +1,7 @@
 -- What is right for those that are left at a turn is so, with what was found, for all.
 use Prim.Native.Nat.{ℕ, _≤_, _<_, _-_}
 use mathlib.Core.Path.{_≡_, refl, _∙_}
-use mathlib.Core.Bool.{Bool, true, _&&_, false≢true}
+use mathlib.Core.Bool.{Bool, true, _&&_}
 use native.Mathlib.Omega.{arith}
 use lib.Dec.{ltb}
 use lib.ListN.{length}
@@ -19,14 +19,15 @@ Inv-loop records size key n list₀ place other₀ found₀ left₀ whole₀ low
     (length list ≡ length list₀) × (length other ≡ length other₀) × (left ≤ length list)
     × (whole ≡ true → Sifts (keyAt key size records) n n (λ u. u) list found left) × (lower < word) × (upper < word)
 
+-- what the loop's test tells
+taken-turns : (turns : ℕ) (whole few : Bool) → (ltb turns 2 && whole && few) ≡ true → turns < 2
+taken-turns turns whole few h = ltb-true turns 2 (and-left (ltb turns 2) whole (and-left (ltb turns 2 && whole) few h))
+
+taken-whole : (turns : ℕ) (whole few : Bool) → (ltb turns 2 && whole && few) ≡ true → whole ≡ true
+taken-whole turns whole few h = and-right (ltb turns 2) whole (and-left (ltb turns 2 && whole) few h)
+
 abbrev μ-loop : tie.MeasureT-loop
 μ-loop records size key n list₀ place other₀ found₀ left₀ whole₀ lower₀ upper₀ turns₀ list other found left whole lower upper turns = 2 - turns
-
-taken-turns : (turns left : ℕ) (whole : Bool) → (ltb turns 2 && whole && ltb 0 left) ≡ true → turns < 2
-taken-turns turns left whole h = ltb-true turns 2 (and-left (ltb turns 2) whole (and-left (ltb turns 2 && whole) (ltb 0 left) h))
-
-taken-whole : (turns left : ℕ) (whole : Bool) → (ltb turns 2 && whole && ltb 0 left) ≡ true → whole ≡ true
-taken-whole turns left whole h = and-right (ltb turns 2) whole (and-left (ltb turns 2 && whole) (ltb 0 left) h)
 
 sift-once-requires : tie.Need-sift-once-requires Inv-loop μ-loop
 sift-once-requires c κs = search needs
@@ -34,41 +35,44 @@ sift-once-requires c κs = search needs
 loop-holds : tie.Need-loop-holds Inv-loop μ-loop
 loop-holds c = (refl, refl, c .before .before .before .before .sift-once .ensures .0, c .before .before .before .before .sift-once .ensures .1, omega arith, omega arith)
 
+are-few-requires : tie.Need-are-few-requires Inv-loop μ-loop
+are-few-requires c κs = search needs
+
 clear-requires : tie.Need-clear-requires Inv-loop μ-loop
 clear-requires c κs = search needs
 
 mul-lower : tie.Need-mul-lower Inv-loop μ-loop
-mul-lower c = omega (arith, c .before .before .before .before .before .loop .inv .4)
+mul-lower c = omega (arith, c .before .before .before .before .before .before .loop .inv .4)
 
 mul-upper : tie.Need-mul-upper Inv-loop μ-loop
-mul-upper c = omega (arith, c .before .before .before .before .before .loop .inv .5)
+mul-upper c = omega (arith, c .before .before .before .before .before .before .loop .inv .5)
 
 sift-requires : tie.Need-sift-requires Inv-loop μ-loop
-sift-requires c κs = let w = c .before .before .before .before .before .before .before .loop .inv .3 (taken-whole (c .before .before .before .before .before .before .before .loop .turns) (c .before .before .before .before .before .before .before .loop .left) (c .before .before .before .before .before .before .before .loop .whole) (c .before .before .before .before .before .before .loop-test .taken)) in (c .before .before .before .before .before .before .before .before .before .before .before .before .before .before .before .before .before .before .before .pre .0, w .listed, λ q. c .before .before .before .before .before .before .before .loop .inv .2, omega (arith, w .fewer, c .before .before .before .before .before .before .before .before .before .before .before .before .before .before .before .before .before .before .before .pre .0 .few), omega (arith, c .before .before .before .other .given, c .before .before .before .before .before .before .before .loop .inv .1, c .before .before .before .before .before .before .before .before .before .before .before .before .before .before .before .before .before .before .before .pre .4), omega (arith, c .before .before .before .other .given, c .before .before .before .before .before .before .before .loop .inv .1, c .before .before .before .before .before .before .before .before .before .before .before .before .before .before .before .before .before .before .before .pre .5), c .before .before .before .before .clear .ensures, omega arith, omega arith)
+sift-requires c κs = let w = c .before .before .before .before .before .before .before .before .loop .inv .3 (taken-whole (c .before .before .before .before .before .before .before .before .loop .turns) (c .before .before .before .before .before .before .before .before .loop .whole) (c .before .before .before .before .before .before .before .are-few .result) (c .before .before .before .before .before .before .if1 .taken)) in (c .before .before .before .before .before .before .before .before .before .before .before .before .before .before .before .before .before .before .before .before .pre .0, w .listed, λ q. c .before .before .before .before .before .before .before .before .loop .inv .2, omega (arith, w .fewer, c .before .before .before .before .before .before .before .before .before .before .before .before .before .before .before .before .before .before .before .before .pre .0 .few), omega (arith, c .before .before .before .other .given, c .before .before .before .before .before .before .before .before .loop .inv .1, c .before .before .before .before .before .before .before .before .before .before .before .before .before .before .before .before .before .before .before .before .pre .4), omega (arith, c .before .before .before .other .given, c .before .before .before .before .before .before .before .before .loop .inv .1, c .before .before .before .before .before .before .before .before .before .before .before .before .before .before .before .before .before .before .before .before .pre .5), c .before .before .before .before .clear .ensures, omega arith, omega arith)
 
 smaller-requires : tie.Need-smaller-requires Inv-loop μ-loop
 smaller-requires c κs = search needs
 
 add-turns : tie.Need-add-turns Inv-loop μ-loop
-add-turns c = omega (arith, taken-turns (c .before .before .before .before .before .before .before .before .before .before .before .before .before .loop .turns) (c .before .before .before .before .before .before .before .before .before .before .before .before .before .loop .left) (c .before .before .before .before .before .before .before .before .before .before .before .before .before .loop .whole) (c .before .before .before .before .before .before .before .before .before .before .before .before .loop-test .taken))
+add-turns c = omega (arith, taken-turns (c .before .before .before .before .before .before .before .before .before .before .before .before .before .before .loop .turns) (c .before .before .before .before .before .before .before .before .before .before .before .before .before .before .loop .whole) (c .before .before .before .before .before .before .before .before .before .before .before .before .before .are-few .result) (c .before .before .before .before .before .before .before .before .before .before .before .before .if1 .taken))
 
 loop-less : tie.Need-loop-less Inv-loop μ-loop
-loop-less c = omega (arith, taken-turns (c .before .before .before .before .before .before .before .before .before .before .before .before .before .loop .turns) (c .before .before .before .before .before .before .before .before .before .before .before .before .before .loop .left) (c .before .before .before .before .before .before .before .before .before .before .before .before .before .loop .whole) (c .before .before .before .before .before .before .before .before .before .before .before .before .loop-test .taken))
+loop-less c = omega (arith, taken-turns (c .before .before .before .before .before .before .before .before .before .before .before .before .before .before .loop .turns) (c .before .before .before .before .before .before .before .before .before .before .before .before .before .before .loop .whole) (c .before .before .before .before .before .before .before .before .before .before .before .before .before .are-few .result) (c .before .before .before .before .before .before .before .before .before .before .before .before .if1 .taken))
 
 loop-again : tie.Need-loop-again Inv-loop μ-loop
-loop-again c = (c .before .before .before .before .list2 .given ∙ c .before .before .before .before .before .before .before .before .before .before .before .before .before .loop .inv .0, c .before .before .other2 .given ∙ c .before .before .before .before .before .before .before .before .before .other .given ∙ c .before .before .before .before .before .before .before .before .before .before .before .before .before .loop .inv .1, c .before .before .before .before .before .sift .ensures .0, λ q. rw (c .smaller .ensures) (sifts-sifts (c .before .before .before .before .before .before .before .before .before .before .before .before .before .loop .inv .3 (taken-whole (c .before .before .before .before .before .before .before .before .before .before .before .before .before .loop .turns) (c .before .before .before .before .before .before .before .before .before .before .before .before .before .loop .left) (c .before .before .before .before .before .before .before .before .before .before .before .before .before .loop .whole) (c .before .before .before .before .before .before .before .before .before .before .before .before .loop-test .taken))) (c .before .before .before .before .before .sift .ensures .1 q)), omega arith, omega arith)
+loop-again c = (c .before .before .before .before .list2 .given ∙ c .before .before .before .before .before .before .before .before .before .before .before .before .before .before .loop .inv .0, c .before .before .other2 .given ∙ c .before .before .before .before .before .before .before .before .before .other .given ∙ c .before .before .before .before .before .before .before .before .before .before .before .before .before .before .loop .inv .1, c .before .before .before .before .before .sift .ensures .0, λ q. rw (c .smaller .ensures) (sifts-sifts (c .before .before .before .before .before .before .before .before .before .before .before .before .before .before .loop .inv .3 (taken-whole (c .before .before .before .before .before .before .before .before .before .before .before .before .before .before .loop .turns) (c .before .before .before .before .before .before .before .before .before .before .before .before .before .before .loop .whole) (c .before .before .before .before .before .before .before .before .before .before .before .before .before .are-few .result) (c .before .before .before .before .before .before .before .before .before .before .before .before .if1 .taken))) (c .before .before .before .before .before .sift .ensures .1 q)), omega arith, omega arith)
 
 same-length : tie.Need-same-length Inv-loop μ-loop
-same-length c = c .before .loop .inv .0 ∙ c .before .before .before .before .before .list .given
+same-length c = c .before .before .loop .inv .0 ∙ c .before .before .before .before .before .before .list .given
 
 same-length-2 : tie.Need-same-length-2 Inv-loop μ-loop
-same-length-2 c = c .before .before .before .place .given
+same-length-2 c = c .before .before .before .before .place .given
 
 same-length-3 : tie.Need-same-length-3 Inv-loop μ-loop
-same-length-3 c = c .before .loop .inv .1
+same-length-3 c = c .before .before .loop .inv .1
 
 returns : tie.Need-returns Inv-loop μ-loop
-returns c = (c .before .loop .inv .2, c .before .loop .inv .3)
+returns c = (c .before .before .loop .inv .2, c .before .before .loop .inv .3)
 
 pub sift-all-spec : {M : Type 1} → statement M
 sift-all-spec =
@@ -78,6 +82,7 @@ sift-all-spec =
     μ-loop
     sift-once-requires
     loop-holds
+    are-few-requires
     clear-requires
     mul-lower
     mul-upper
