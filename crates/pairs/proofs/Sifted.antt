@@ -4,7 +4,7 @@ use mathlib.Core.Path.{_≡_, refl, sym, ap, _∙_}
 use mathlib.Core.Bool.{Bool, true, false, cond}
 use mathlib.Core.List.{List}
 use mathlib.Core.Logic.{_⊎_, inl, inr, ⊎-elim}
-use Prim.Native.Nat.{ℕ, suc, _+_, _≤_, _<_}
+use Prim.Native.Nat.{ℕ, suc, _+_, _-_, _≤_, _<_}
 use native.Mathlib.Nat.{eq-or-lt-of-le, le-trans}
 use native.Mathlib.Decide.{decLt}
 use native.Mathlib.Omega.{arith}
@@ -89,6 +89,10 @@ another {key} {places} {a} {x} {h} is other =
       full = λ p. omega (arith, p, is);
       differ = λ g p q. let same : g ≡ h = omega (arith, p, is) in other (ap key (sym same) ∙ q);
     }
+
+-- what is read at a place that is not empty is the number of a record and one
+pub holder : {w x : ℕ} → w ≡ x → (w ≡ 0 → ⊥) → x ≡ suc (w - 1)
+holder is full = omega (arith, is, full)
 
 pub another-at : {key : ℕ → ℕ} {places : List ℕ} {a b x : ℕ} → a ≡ b → Another key places a x → Another key places b x
 another-at q w = rw (sym q) w

@@ -130,7 +130,16 @@ fn first_of_most(records: &[u8], size: usize, key: Key, n: usize) -> Tried
     if !s.whole {
         return Tried::Unanswered;
     }
-    match first_by_order(records, size, key, n, s.left, &mut list, &mut place, &mut other) {
+    match first_by_order(
+        records,
+        size,
+        key,
+        n,
+        s.left,
+        &mut list,
+        &mut place,
+        &mut other,
+    ) {
         Tried::Answered(i) => Tried::Answered(smaller(i, s.found)),
         Tried::Unanswered => Tried::Unanswered,
     }

@@ -90,7 +90,11 @@ fn sift(
             continue;
         }
         if key_at(records, size, key, held - 1) == x {
-            return Sifted { found: i, left, whole: true };
+            return Sifted {
+                found: i,
+                left,
+                whole: true,
+            };
         }
         let second = place_of(x, upper, lower, place.len());
         let holds = wide(place[second]);
@@ -99,15 +103,27 @@ fn sift(
             continue;
         }
         if key_at(records, size, key, holds - 1) == x {
-            return Sifted { found: i, left, whole: true };
+            return Sifted {
+                found: i,
+                left,
+                whole: true,
+            };
         }
         if gives_up(left, t, m, list.len()) {
-            return Sifted { found: n, left, whole: false };
+            return Sifted {
+                found: n,
+                left,
+                whole: false,
+            };
         }
         list[left] = i as u16;
         left += 1;
     }
-    Sifted { found: n, left, whole: true }
+    Sifted {
+        found: n,
+        left,
+        whole: true,
+    }
 }
 
 // Sifts n records by places that are empty, with a loop of its own for each width of keys.
@@ -124,8 +140,30 @@ fn sift_once(
         (now (list .exit)) (r .found) (r .left)) ⌝ }
 {
     match key {
-        Key::Four => sift(records, size, Key::Four, n, list, false, n, LOWER, UPPER, place),
-        Key::Eight => sift(records, size, Key::Eight, n, list, false, n, LOWER, UPPER, place),
+        Key::Four => sift(
+            records,
+            size,
+            Key::Four,
+            n,
+            list,
+            false,
+            n,
+            LOWER,
+            UPPER,
+            place,
+        ),
+        Key::Eight => sift(
+            records,
+            size,
+            Key::Eight,
+            n,
+            list,
+            false,
+            n,
+            LOWER,
+            UPPER,
+            place,
+        ),
     }
 }
 

@@ -15,31 +15,15 @@ Inv-loop list₀ m u₀ list u = (u ≤ m) × (length list ≡ length list₀) �
 abbrev μ-loop : tie.MeasureT-loop
 μ-loop list₀ m u₀ list u = m - u
 
--- src/lists.rt:26:5
 loop-holds : tie.Need-loop-holds Inv-loop μ-loop
 loop-holds c = (omega arith, refl, filled-none)
 
--- src/lists.rt:27:19
 cast-list : tie.Need-cast-list Inv-loop μ-loop
 cast-list c = omega (arith, c .before .before .pre .1, c .loop-test .taken)
 
--- src/lists.rt:27:9
-mul-list : tie.Need-mul-list Inv-loop μ-loop
-mul-list c = search needs
-
--- src/lists.rt:27:9
 slice-write-list : tie.Need-slice-write-list Inv-loop μ-loop
 slice-write-list c = omega (arith, c .before .loop .inv .1, c .before .before .pre .0, c .loop-test .taken)
 
--- src/lists.rt:28:9
-add-u : tie.Need-add-u Inv-loop μ-loop
-add-u c = search needs
-
--- src/lists.rt:26:5
-loop-less : tie.Need-loop-less Inv-loop μ-loop
-loop-less c = search needs
-
--- src/lists.rt:26:5
 loop-again : tie.Need-loop-again Inv-loop μ-loop
 loop-again c =
     let at = c .before .loop in (
@@ -48,11 +32,9 @@ loop-again c =
       filled-more (omega (arith, at .inv .1, c .before .before .pre .0, c .loop-test .taken)) refl (at .inv .2),
     )
 
--- src/lists.rt:21:1
 same-length : tie.Need-same-length Inv-loop μ-loop
 same-length c = c .before .loop .inv .1
 
--- src/lists.rt:21:1
 returns : tie.Need-returns Inv-loop μ-loop
 returns c = let at = c .before .loop in record { entry = λ u h. at .inv .2 .entry u (omega (arith, c .loop-test .left)) }
 
@@ -64,10 +46,10 @@ list-all-spec =
     μ-loop
     loop-holds
     cast-list
-    mul-list
+    (λ c. search needs)
     slice-write-list
-    add-u
-    loop-less
+    (λ c. search needs)
+    (λ c. search needs)
     loop-again
     same-length
     returns)

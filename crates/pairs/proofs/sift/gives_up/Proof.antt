@@ -8,18 +8,14 @@ use borrow.Author.Needs.{needs}
 use Rattle.pairs.proofs.sift.gives_up.Statement.{statement}
 use Rattle.pairs.proofs.sift.gives_up.Tie as tie
 
-sub-result : tie.Need-sub-result
-sub-result c = search needs
-
-mul-result : tie.Need-mul-result
-mul-result c = search needs
-
-sub-result-2 : tie.Need-sub-result-2
-sub-result-2 c = search needs
-
 returns : tie.Need-returns
 returns c e =
     let a = c .args in leb-false (a .room) (a .left) (or-left (leb (a .room) (a .left)) (ltb 256 (a .left) && ltb (2 * (a .t - a .left)) (a .m - a .t)) e)
 
 pub gives-up-spec : {M : Type 1} → statement M
-gives-up-spec = tie.close (tie.spec sub-result mul-result sub-result-2 returns)
+gives-up-spec = tie.close
+    (tie.spec
+    (λ c. search needs)
+    (λ c. search needs)
+    (λ c. search needs)
+    returns)

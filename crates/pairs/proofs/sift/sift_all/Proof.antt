@@ -29,17 +29,8 @@ taken-whole turns whole few h = and-right (ltb turns 2) whole (and-left (ltb tur
 abbrev μ-loop : tie.MeasureT-loop
 μ-loop records size key n list₀ place other₀ found₀ left₀ whole₀ lower₀ upper₀ turns₀ list other found left whole lower upper turns = 2 - turns
 
-sift-once-requires : tie.Need-sift-once-requires Inv-loop μ-loop
-sift-once-requires c κs = search needs
-
 loop-holds : tie.Need-loop-holds Inv-loop μ-loop
 loop-holds c = (refl, refl, c .before .before .before .before .sift-once .ensures .0, c .before .before .before .before .sift-once .ensures .1, omega arith, omega arith)
-
-are-few-requires : tie.Need-are-few-requires Inv-loop μ-loop
-are-few-requires c κs = search needs
-
-clear-requires : tie.Need-clear-requires Inv-loop μ-loop
-clear-requires c κs = search needs
 
 mul-lower : tie.Need-mul-lower Inv-loop μ-loop
 mul-lower c = omega (arith, c .before .before .before .before .before .before .loop .inv .4)
@@ -48,19 +39,47 @@ mul-upper : tie.Need-mul-upper Inv-loop μ-loop
 mul-upper c = omega (arith, c .before .before .before .before .before .before .loop .inv .5)
 
 sift-requires : tie.Need-sift-requires Inv-loop μ-loop
-sift-requires c κs = let w = c .before .before .before .before .before .before .before .before .loop .inv .3 (taken-whole (c .before .before .before .before .before .before .before .before .loop .turns) (c .before .before .before .before .before .before .before .before .loop .whole) (c .before .before .before .before .before .before .before .are-few .result) (c .before .before .before .before .before .before .if1 .taken)) in (c .before .before .before .before .before .before .before .before .before .before .before .before .before .before .before .before .before .before .before .before .pre .0, w .listed, λ q. c .before .before .before .before .before .before .before .before .loop .inv .2, omega (arith, w .fewer, c .before .before .before .before .before .before .before .before .before .before .before .before .before .before .before .before .before .before .before .before .pre .0 .few), omega (arith, c .before .before .before .other .given, c .before .before .before .before .before .before .before .before .loop .inv .1, c .before .before .before .before .before .before .before .before .before .before .before .before .before .before .before .before .before .before .before .before .pre .4), omega (arith, c .before .before .before .other .given, c .before .before .before .before .before .before .before .before .loop .inv .1, c .before .before .before .before .before .before .before .before .before .before .before .before .before .before .before .before .before .before .before .before .pre .5), c .before .before .before .before .clear .ensures, omega arith, omega arith)
-
-smaller-requires : tie.Need-smaller-requires Inv-loop μ-loop
-smaller-requires c κs = search needs
+sift-requires c κs =
+    let c8 = c .before .before .before .before .before .before .before .before in
+    let c16 = c8 .before .before .before .before .before .before .before .before in
+    let l = c8 .loop in
+    let few = c .before .before .before .before .before .before .before .are-few .result in
+    let w = l .inv .3 (taken-whole (l .turns) (l .whole) few (c .before .before .before .before .before .before .if1 .taken)) in (
+      c16 .before .before .before .before .pre .0,
+      w .listed,
+      λ q. c8 .loop .inv .2,
+      omega (arith, w .fewer, c16 .before .before .before .before .pre .0 .few),
+      omega (arith, c .before .before .before .other .given, c8 .loop .inv .1, c16 .before .before .before .before .pre .4),
+      omega (arith, c .before .before .before .other .given, c8 .loop .inv .1, c16 .before .before .before .before .pre .5),
+      c .before .before .before .before .clear .ensures,
+      omega arith,
+      omega arith,
+    )
 
 add-turns : tie.Need-add-turns Inv-loop μ-loop
-add-turns c = omega (arith, taken-turns (c .before .before .before .before .before .before .before .before .before .before .before .before .before .before .loop .turns) (c .before .before .before .before .before .before .before .before .before .before .before .before .before .before .loop .whole) (c .before .before .before .before .before .before .before .before .before .before .before .before .before .are-few .result) (c .before .before .before .before .before .before .before .before .before .before .before .before .if1 .taken))
+add-turns c =
+    let c8 = c .before .before .before .before .before .before .before .before in
+    let l = c8 .before .before .before .before .before .before .loop in
+    omega (arith, taken-turns (l .turns) (l .whole) (c8 .before .before .before .before .before .are-few .result) (c8 .before .before .before .before .if1 .taken))
 
 loop-less : tie.Need-loop-less Inv-loop μ-loop
-loop-less c = omega (arith, taken-turns (c .before .before .before .before .before .before .before .before .before .before .before .before .before .before .loop .turns) (c .before .before .before .before .before .before .before .before .before .before .before .before .before .before .loop .whole) (c .before .before .before .before .before .before .before .before .before .before .before .before .before .are-few .result) (c .before .before .before .before .before .before .before .before .before .before .before .before .if1 .taken))
+loop-less c =
+    let c8 = c .before .before .before .before .before .before .before .before in
+    let l = c8 .before .before .before .before .before .before .loop in
+    omega (arith, taken-turns (l .turns) (l .whole) (c8 .before .before .before .before .before .are-few .result) (c8 .before .before .before .before .if1 .taken))
 
 loop-again : tie.Need-loop-again Inv-loop μ-loop
-loop-again c = (c .before .before .before .before .list2 .given ∙ c .before .before .before .before .before .before .before .before .before .before .before .before .before .before .loop .inv .0, c .before .before .other2 .given ∙ c .before .before .before .before .before .before .before .before .before .other .given ∙ c .before .before .before .before .before .before .before .before .before .before .before .before .before .before .loop .inv .1, c .before .before .before .before .before .sift .ensures .0, λ q. rw (c .smaller .ensures) (sifts-sifts (c .before .before .before .before .before .before .before .before .before .before .before .before .before .before .loop .inv .3 (taken-whole (c .before .before .before .before .before .before .before .before .before .before .before .before .before .before .loop .turns) (c .before .before .before .before .before .before .before .before .before .before .before .before .before .before .loop .whole) (c .before .before .before .before .before .before .before .before .before .before .before .before .before .are-few .result) (c .before .before .before .before .before .before .before .before .before .before .before .before .if1 .taken))) (c .before .before .before .before .before .sift .ensures .1 q)), omega arith, omega arith)
+loop-again c =
+    let c8 = c .before .before .before .before .before .before .before .before in
+    let l = c8 .before .before .before .before .before .before .loop in
+    let w = taken-whole (l .turns) (l .whole) (c8 .before .before .before .before .before .are-few .result) (c8 .before .before .before .before .if1 .taken) in (
+      c .before .before .before .before .list2 .given ∙ l .inv .0,
+      c .before .before .other2 .given ∙ c8 .before .other .given ∙ l .inv .1,
+      c .before .before .before .before .before .sift .ensures .0,
+      λ q. rw (c .smaller .ensures) (sifts-sifts (l .inv .3 w) (c .before .before .before .before .before .sift .ensures .1 q)),
+      omega arith,
+      omega arith,
+    )
 
 same-length : tie.Need-same-length Inv-loop μ-loop
 same-length c = c .before .before .loop .inv .0 ∙ c .before .before .before .before .before .before .list .given
@@ -80,14 +99,14 @@ sift-all-spec =
     (tie.spec
     Inv-loop
     μ-loop
-    sift-once-requires
+    (λ c κs. search needs)
     loop-holds
-    are-few-requires
-    clear-requires
+    (λ c κs. search needs)
+    (λ c κs. search needs)
     mul-lower
     mul-upper
     sift-requires
-    smaller-requires
+    (λ c κs. search needs)
     add-turns
     loop-less
     loop-again

@@ -5,32 +5,34 @@ use borrow.Author.Needs.{needs}
 use Rattle.pairs.proofs.sift.sift_once.Statement.{statement}
 use Rattle.pairs.proofs.sift.sift_once.Tie as tie
 
-enum-told : tie.Need-enum-told
-enum-told c = search needs
-
 sift-requires : tie.Need-sift-requires
-sift-requires c κs = (rw (c .before .before .enum-told .given .1) at (c .before .before .before .before .before .before .before .pre .0), record { below = λ u h. h; rising = λ u v h k. h }, λ q. absurd (false≢true q), c .before .before .before .before .before .before .before .pre .0 .few, c .before .before .before .before .before .before .before .pre .1, c .before .before .before .before .before .before .before .pre .2, c .before .before .before .before .before .before .before .pre .3, omega arith, omega arith)
-
-enum-told-2 : tie.Need-enum-told-2
-enum-told-2 c = search needs
+sift-requires c κs = (
+  rw (c .before .before .enum-told .given .1) at (c .before .before .before .before .before .before .before .pre .0),
+  record { below = λ u h. h; rising = λ u v h k. h },
+  λ q. absurd (false≢true q),
+  c .before .before .before .before .before .before .before .pre .0 .few,
+  c .before .before .before .before .before .before .before .pre .1,
+  c .before .before .before .before .before .before .before .pre .2,
+  c .before .before .before .before .before .before .before .pre .3,
+  omega arith,
+  omega arith,
+)
 
 sift-requires-2 : tie.Need-sift-requires-2
-sift-requires-2 c κs = (rw (c .before .before .enum-told2 .given .1) at (c .before .before .before .before .before .before .before .pre .0), record { below = λ u h. h; rising = λ u v h k. h }, λ q. absurd (false≢true q), c .before .before .before .before .before .before .before .pre .0 .few, c .before .before .before .before .before .before .before .pre .1, c .before .before .before .before .before .before .before .pre .2, c .before .before .before .before .before .before .before .pre .3, omega arith, omega arith)
-
-same-length : tie.Need-same-length
-same-length c = search needs
-
-same-length-2 : tie.Need-same-length-2
-same-length-2 c = search needs
+sift-requires-2 c κs = (
+  rw (c .before .before .enum-told2 .given .1) at (c .before .before .before .before .before .before .before .pre .0),
+  record { below = λ u h. h; rising = λ u v h k. h },
+  λ q. absurd (false≢true q),
+  c .before .before .before .before .before .before .before .pre .0 .few,
+  c .before .before .before .before .before .before .before .pre .1,
+  c .before .before .before .before .before .before .before .pre .2,
+  c .before .before .before .before .before .before .before .pre .3,
+  omega arith,
+  omega arith,
+)
 
 returns : tie.Need-returns
 returns c = rw (c .before .before .before .before .before .before .before .enum-told .given .1) (c .before .before .before .before .sift .ensures)
-
-same-length-3 : tie.Need-same-length-3
-same-length-3 c = search needs
-
-same-length-4 : tie.Need-same-length-4
-same-length-4 c = search needs
 
 returns-2 : tie.Need-returns-2
 returns-2 c = rw (c .before .before .before .before .before .before .before .enum-told2 .given .1) (c .before .before .before .before .sift2 .ensures)
@@ -39,13 +41,13 @@ pub sift-once-spec : {M : Type 1} → statement M
 sift-once-spec =
     tie.close
     (tie.spec
-    enum-told
+    (λ c. search needs)
     sift-requires
-    enum-told-2
+    (λ c. search needs)
     sift-requires-2
-    same-length
-    same-length-2
+    (λ c. search needs)
+    (λ c. search needs)
     returns
-    same-length-3
-    same-length-4
+    (λ c. search needs)
+    (λ c. search needs)
     returns-2)
