@@ -6,4 +6,5 @@ mod Trees
 mod Apart
 mod Listing
 mod Sorted
+mod Runs
 mod Sifted

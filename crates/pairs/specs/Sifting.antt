@@ -27,9 +27,9 @@ pub record Sifts (key : ℕ → ℕ) (n m : ℕ) (before : ℕ → ℕ) (after :
 abbrev pub digits : ℕ
 digits = 1_024
 
--- counts for four digits, which are at most m
+-- counts for three digits, which are at most m
 pub record Counts (m : ℕ) (list : List ℕ) : Type 0 where
-  pub long : 4 * digits ≤ length list
+  pub long : 3 * digits ≤ length list
   pub counted : (u : ℕ) → at list u ≤ m
 
 -- index j may stand after index i
@@ -37,19 +37,21 @@ pub record After (key : ℕ → ℕ) (i j : ℕ) : Type 0 where
   pub up : key i ≤ key j
   pub rising : key i ≡ key j → i < j
 
--- i stands right after an index with the same key
-pub record Neighbour (key f : ℕ → ℕ) (t i : ℕ) : Type 0 where
+-- i stands after an index with the same key
+pub record Twin (key f : ℕ → ℕ) (t i : ℕ) : Type 0 where
   pub place : ℕ
-  pub below : suc place < t
-  pub is : f (suc place) ≡ i
-  pub same : key (f place) ≡ key (f (suc place))
+  pub other : ℕ
+  pub earlier : other < place
+  pub below : place < t
+  pub is : f place ≡ i
+  pub same : key (f other) ≡ key (f place)
 
--- t indices are in order, and the lowest that stands right after one with the same key is found, or n
+-- t indices are in order but for the lowest ten bits of their keys, and the lowest that stands after one with the same key is found, or n
 pub record Ordered (key f : ℕ → ℕ) (n t found : ℕ) : Type 0 where
-  pub next : (u : ℕ) → suc u < t → After key (f u) (f (suc u))
+  pub next : (u : ℕ) → suc u < t → After (λ i. key i / 1_024) (f u) (f (suc u))
   pub within : found ≤ n
-  pub neighbour : found < n → Neighbour key f t found
-  pub lowest : (u : ℕ) → suc u < t → key (f u) ≡ key (f (suc u)) → found ≤ f (suc u)
+  pub twin : found < n → Twin key f t found
+  pub lowest : (u v : ℕ) → u < v → v < t → key (f u) ≡ key (f v) → found ≤ f v
 
 -- the first of n records, from its index or n
 abbrev pub foundAt : ℕ → ℕ → Found
