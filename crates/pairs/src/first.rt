@@ -42,8 +42,8 @@ const LARGE_PLACES: usize = 8 * LARGE;
 
 const MOST_PLACES: usize = 4 * MOST;
 
-// Counts for the digits of four passes.
-const COUNTS: usize = 4_096;
+// Counts for the digits of three passes.
+const COUNTS: usize = 3 * 1_024;
 
 // What an index says: the number of all records that none repeats another.
 fn found_at(i: usize, n: usize) -> Found
