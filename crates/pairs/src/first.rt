@@ -146,7 +146,7 @@ fn first_of_most(records: &[u8], size: usize, key: Key, n: usize) -> Tried
 }
 
 // All of them, put in order.
-fn first_of_all(records: &[u8], size: usize, key: Key, n: usize) -> Tried
+fn tried_in_order(records: &[u8], size: usize, key: Key, n: usize) -> Tried
     requires { ⌜ Keyed key size (now records) n ⌝ }
     ensures { λ r. ⌜ Tries (FirstOf (keyAt key size (now (records .entry))) (λ u. u) n n) r ⌝ }
 {
@@ -168,25 +168,27 @@ fn tried_large(records: &[u8], size: usize, key: Key, n: usize) -> Tried
     first_large(records, size, key, n)
 }
 
-// The first of n records that repeats an earlier one, with arrays for at most LARGE or MOST. The order of all always answers; that it does
-// is not proved, and nothing but the time depends on it.
-fn first_by_most(records: &[u8], size: usize, key: Key, n: usize) -> Found
+// At most LARGE with arrays for these, and where some records are left of them, or there are more, with the longest.
+fn tried_most(records: &[u8], size: usize, key: Key, n: usize) -> Tried
     requires { ⌜ Keyed key size (now records) n ⌝ }
-    ensures { λ r. ⌜ r ≡ first (repeating (sameKeyIn key size (now (records .entry)))) n ⌝ }
+    ensures { λ r. ⌜ Tries (FirstOf (keyAt key size (now (records .entry))) (λ u. u) n n) r ⌝ }
 {
     match tried_large(records, size, key, n) {
         Tried::Answered(i) => {
-            return found_at(i, n);
+            return Tried::Answered(i);
         }
         Tried::Unanswered => {}
     }
-    match first_of_most(records, size, key, n) {
-        Tried::Answered(i) => {
-            return found_at(i, n);
-        }
-        Tried::Unanswered => {}
-    }
-    match first_of_all(records, size, key, n) {
+    first_of_most(records, size, key, n)
+}
+
+// The first of n records that repeats an earlier one, without sifting. The order of all always answers; that it does is not proved, and
+// nothing but the time depends on it.
+fn first_of_all(records: &[u8], size: usize, key: Key, n: usize) -> Found
+    requires { ⌜ Keyed key size (now records) n ⌝ }
+    ensures { λ r. ⌜ r ≡ first (repeating (sameKeyIn key size (now (records .entry)))) n ⌝ }
+{
+    match tried_in_order(records, size, key, n) {
         Tried::Answered(i) => {
             return found_at(i, n);
         }
@@ -233,7 +235,13 @@ pub fn first_repeated(records: &[u8], size: usize, key: Key) -> Found
         return first_by_pairs(records, size, key, n);
     }
     if MIDDLE < n {
-        return first_by_most(records, size, key, n);
+        match tried_most(records, size, key, n) {
+            Tried::Answered(i) => {
+                return found_at(i, n);
+            }
+            Tried::Unanswered => {}
+        }
+        return first_of_all(records, size, key, n);
     }
     match tried_small(records, size, key, n) {
         Tried::Answered(i) => {
@@ -241,5 +249,11 @@ pub fn first_repeated(records: &[u8], size: usize, key: Key) -> Found
         }
         Tried::Unanswered => {}
     }
-    first_by_most(records, size, key, n)
+    match tried_most(records, size, key, n) {
+        Tried::Answered(i) => {
+            return found_at(i, n);
+        }
+        Tried::Unanswered => {}
+    }
+    first_of_all(records, size, key, n)
 }
