@@ -49,13 +49,13 @@ fn index_at(list: &[u16], listed: bool, t: usize) -> usize
     if listed { wide(list[t]) } else { t }
 }
 
-// Whether to give up after t of m records: the list is full, or many are left and few of those that came stay, so that to put all records
-// in order takes less time. No answer depends on it.
+// Whether to give up after t of m records: the list is full, or many are left and fewer stay than are still to come, so that to put all
+// records in order takes less time. No answer depends on it.
 fn gives_up(left: usize, t: usize, m: usize, room: usize) -> bool
     requires { ⌜ (left ≤ t) × (t ≤ m) × (m ≤ most) ⌝ }
     ensures { λ r. ⌜ (r ≡ false → left < room) ⌝ }
 {
-    (room <= left) | ((256 < left) & (2 * (t - left) < m - t))
+    (room <= left) | ((256 < left) & (t - left < m - t))
 }
 
 // Sifts m records of n, by places that are empty: those in a list, or the first without one. The list then has those that are left, unless
