@@ -1,7 +1,7 @@
 /*
  * Measures how much stack each call takes: in a thread, the stack below the call is painted, the call is made, and the deepest
- * byte that changed is looked for. The files are full ones, whole and with a fault for each check. Fails where a call takes more
- * than CITRONREEF_STACK_KIB.
+ * byte that changed is looked for. The files are full ones, whole, with a fault for each check, and with positions that have to
+ * be put in order. Fails where a call takes more than CITRONREEF_STACK_KIB.
  */
 #include "citronreef.h"
 #include <pthread.h>
@@ -108,6 +108,23 @@ static void full_file(void)
     length = FILE_SIZE;
 }
 
+/*
+ * Gives the positions from one on other accounts. Where the library sifts them, both places of each are in the first 64th, and few
+ * stay. Where it is the first, all positions are put in order; where it is the middle one, those that are left.
+ */
+static void crowd(uint32_t from)
+{
+    const uint32_t lower = 2654435761, upper = 1973900851, inverse = 244002641;
+    uint32_t number = 1, account;
+    for (uint32_t k = from; k < POSITIONS; k++) {
+        uint32_t mark = k % MARKS;
+        do
+            account = (number++ - mark * upper) * inverse;
+        while (account * upper + mark * lower >= 1 << 26);
+        put(POSITIONS_AT + 12 * k, account);
+    }
+}
+
 /* The check that each fault breaks, and the number that is put at a place of the full file to break it. */
 static const struct { uint64_t check; size_t at; uint32_t number; } faults[] = {
     {0, 4, 24}, {2, 0, MARKS + 1}, {2, 8, UINT32_MAX}, {2, 16, POSITIONS + 1}, {3, 4, 25}, {3, 20, 0},
@@ -117,6 +134,16 @@ static const struct { uint64_t check; size_t at; uint32_t number; } faults[] = {
     {16, FILE_SIZE - 12, MARKS - 1},
 };
 
+/* Measures the calls on the file, which this check must refuse, or none where it is 0. */
+static void measure_refused(uint64_t check)
+{
+    if (citronreef_settle(file, length, amounts, POSITIONS).refused != check) {
+        printf("a file is not refused with %d as it should be\n", (int)check);
+        exit(2);
+    }
+    in_a_thread();
+}
+
 int main(void)
 {
     size_t most = 0;
@@ -125,11 +152,12 @@ int main(void)
     for (size_t k = 0; k < sizeof faults / sizeof *faults; k++) {
         full_file();
         put(faults[k].at, faults[k].number);
-        if (citronreef_settle(file, length, amounts, POSITIONS).refused != faults[k].check) {
-            printf("a file is not refused with %d as it should be\n", (int)faults[k].check);
-            return 2;
-        }
-        in_a_thread();
+        measure_refused(faults[k].check);
+    }
+    for (uint32_t from = 0; from < POSITIONS; from += POSITIONS / 2) {
+        full_file();
+        crowd(from);
+        measure_refused(0);
     }
     for (int k = 0; k < CALLS; k++) {
         printf("%s %zu, ", calls[k].name, deepest[k]);

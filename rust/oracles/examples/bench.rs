@@ -18,6 +18,7 @@ const RUNS: usize = 301;
 
 type Settle = fn(&[u8], &mut [i64]) -> Result<Settled, Refusal>;
 type Value = fn([u8; 2], u32) -> Result<u64, Refusal>;
+type Renew = fn(&mut Random, &mut [u8]);
 
 /// The same value, of which the compiler knows nothing.
 fn black_box<T>(value: T) -> T {
@@ -82,10 +83,15 @@ fn print_settle_row(label: &str, [proved, plain, hashed]: [f64; 3]) {
     println!("{label:>21} {proved:>9.1} {plain:>9.1} {to_plain:>9.2} {hashed:>9.1} {to_hashed:>9.2}");
 }
 
-/// The number whose product with the library's multiplier is this. The multiplier is odd, so it has an inverse.
+/// The library's multipliers of account and mark for a position's first place; for its second they are changed about.
+/// The first is that of a correction's number too.
+const LOWER: u32 = 2_654_435_761;
+const UPPER: u32 = 1_973_900_851;
+
+/// The number whose product with the first multiplier is this. The multiplier is odd, so it has an inverse.
 fn of_product(product: u32) -> u32 {
     const INVERSE: u32 = 244_002_641;
-    assert_eq!(INVERSE.wrapping_mul(2_654_435_761), 1);
+    assert_eq!(INVERSE.wrapping_mul(LOWER), 1);
     product.wrapping_mul(INVERSE)
 }
 
@@ -121,12 +127,38 @@ fn with_holdings(mut day: Day, holding: impl Fn(u32) -> (u32, u32)) -> Day {
     day
 }
 
-/// All positions have one place where the library sifts them, so that all but the first are left, and are put in order.
+/// The account that has, with a mark, the first place that goes by a number where the library sifts the positions.
+fn account_at(number: u32, mark: u32) -> u32 {
+    of_product(number.wrapping_sub(mark.wrapping_mul(UPPER)))
+}
+
+/// All positions have one first place, so that all but one go to their second.
 fn with_one_place(day: Day) -> Day {
-    with_holdings(day, |index| {
-        let (mark, scattered) = (index % 256, index / 256 << 12);
-        (of_product(scattered.wrapping_sub(mark.wrapping_mul(1_973_900_851))), mark)
-    })
+    with_holdings(day, |index| (account_at(index / 256 << 12, index % 256), index % 256))
+}
+
+/// The first 64th of the places goes by numbers below this.
+const CROWD: u32 = 1 << 26;
+
+/// These numbers in no order, each once. With another start others come first.
+fn crowd(start: u32) -> impl Iterator<Item = u32> {
+    (0..CROWD).map(move |step| step.wrapping_mul(2_246_822_519).wrapping_add(start) % CROWD)
+}
+
+/// The next account that has, with a mark, both places among these.
+fn crowded_account(numbers: &mut impl Iterator<Item = u32>, mark: u32) -> u32 {
+    let second = |account: u32| account.wrapping_mul(UPPER).wrapping_add(mark.wrapping_mul(LOWER));
+    let mut accounts = numbers.map(|number| account_at(number, mark));
+    accounts.find(|&account| second(account) < CROWD).expect("there are more numbers than positions need")
+}
+
+/// Both places of each position are in the first 64th, so that few positions stay, and all are put in order.
+fn with_both_places(mut day: Day) -> Day {
+    let mut numbers = crowd(0);
+    for position in &mut day.positions {
+        position.account = crowded_account(&mut numbers, position.mark);
+    }
+    day
 }
 
 /// A number without order for each number, another for another.
@@ -141,6 +173,15 @@ fn renew_accounts(random: &mut Random, file: &mut [u8]) {
     let (first, start) = (random.number() as u32, u32_at(file, 20) as usize);
     for (index, record) in file[start..].chunks_exact_mut(RECORD_SIZE).enumerate() {
         let account = scattered(first.wrapping_add(index as u32));
+        record[..4].copy_from_slice(&account.to_le_bytes());
+    }
+}
+
+/// The same with both places of each position in the first 64th.
+fn renew_crowded(random: &mut Random, file: &mut [u8]) {
+    let (mut numbers, start) = (crowd(random.number() as u32), u32_at(file, 20) as usize);
+    for record in file[start..].chunks_exact_mut(RECORD_SIZE) {
+        let account = crowded_account(&mut numbers, u32_at(record, 4));
         record[..4].copy_from_slice(&account.to_le_bytes());
     }
 }
@@ -168,6 +209,7 @@ fn other_days(random: &mut Random) -> Vec<(&'static str, Day)> {
             with_holdings(day_of_products(random, &PRODUCTS, full), |index| (index / 256, index % 256)),
         ),
         ("one place", with_one_place(day_of_products(random, &PRODUCTS, full))),
+        ("both places", with_both_places(day_of_products(random, &PRODUCTS, full))),
         ("no positions", with_distinct_numbers(day_of(random, MAX_MARKS, MAX_CORRECTIONS, 0))),
         ("1 mark, no positions", Day { positions: vec![], ..tiny.clone() }),
         ("1 mark, 2 positions", tiny),
@@ -176,9 +218,14 @@ fn other_days(random: &mut Random) -> Vec<(&'static str, Day)> {
 
 /// Full days of some marks that have other accounts in each call, so that no processor learns the places.
 fn print_renewed(random: &mut Random) {
-    for (label, marks) in [("new accounts", MAX_MARKS), ("1 mark, new accounts", 1)] {
+    let rows: [(&str, usize, Renew); 3] = [
+        ("new accounts", MAX_MARKS, renew_accounts),
+        ("1 mark, new accounts", 1, renew_accounts),
+        ("new, both places", MAX_MARKS, renew_crowded),
+    ];
+    for (label, marks, renew) in rows {
         let day = with_distinct_numbers(day_of(random, marks, MAX_CORRECTIONS, MAX_POSITIONS));
-        print_settle_row(label, settle_times_after(&day, |file| renew_accounts(random, file)));
+        print_settle_row(label, settle_times_after(&day, |file| renew(random, file)));
     }
 }
 

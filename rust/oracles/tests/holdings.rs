@@ -10,9 +10,12 @@ use oracles::days::{damage_bytes, damage_record, day, day_of};
 use oracles::plain::{check_pairs, read, same_holding};
 use oracles::random::Random;
 
-/// A day with as many marks and these positions: account, mark and lots.
-fn day_with(marks: usize, positions: &[(u32, u32, i32)]) -> Day {
-    let position = |&(account, mark, lots): &(u32, u32, i32)| Position { account, mark, lots };
+/// A position: account, mark and lots.
+type Holding = (u32, u32, i32);
+
+/// A day with as many marks and these positions.
+fn day_with(marks: usize, positions: &[Holding]) -> Day {
+    let position = |&(account, mark, lots): &Holding| Position { account, mark, lots };
     Day { positions: positions.iter().map(position).collect(), ..day_of(&mut Random::new(16), marks, 0, 0) }
 }
 
@@ -38,7 +41,7 @@ fn account_and_mark_alone_count() {
 #[test]
 fn place_among_the_checks() {
     let repeated = [(7, 0, 1), (7, 0, 2)];
-    let with = |further: (u32, u32, i32)| day_with(1, &[&repeated[..], &[further]].concat());
+    let with = |further: Holding| day_with(1, &[&repeated[..], &[further]].concat());
     assert_eq!(refused(&with((8, 1, 1)), 3), Some((12, 2)));
     assert_eq!(refused(&with((8, 0, 0)), 3), Some((13, 2)));
     assert_eq!(refused(&with((8, 0, 1)), 3), Some((16, 1)));
@@ -87,7 +90,7 @@ fn crowded_days() {
 #[test]
 fn every_bit_counts() {
     let ones = |bits: u32| (0..bits).map(|bit| 1 << bit).chain([0]);
-    let holdings: Vec<(u32, u32, i32)> = ones(32).flat_map(|account| ones(8).map(move |mark| (account, mark, 1))).collect();
+    let holdings: Vec<Holding> = ones(32).flat_map(|account| ones(8).map(move |mark| (account, mark, 1))).collect();
     assert_eq!(refused(&day_with(MAX_MARKS, &holdings), holdings.len()), None);
     for &holding in &holdings {
         let longer = day_with(MAX_MARKS, &[&holdings[..], &[holding]].concat());
@@ -98,9 +101,28 @@ fn every_bit_counts() {
 /// How long a list may be for each size of the library's arrays.
 const SIZES: [usize; 5] = [32, 128, 512, 1_024, MAX_POSITIONS];
 
-/// A position whose place in the library's first sifting goes by a number: 0 is the first place, and the highest of 32 bits the last.
-fn at_place(place: u32, mark: u32) -> (u32, u32, i32) {
-    (place.wrapping_sub(mark.wrapping_mul(1_973_900_851)).wrapping_mul(244_002_641), mark, 1)
+/// The library's factors of account and mark for a position's first place. For its second place they are changed about.
+const LOWER: u32 = 2_654_435_761;
+const UPPER: u32 = 1_973_900_851;
+
+/// Where a list is sifted anew, the first is multiplied by this, and the second by the first as it was at the start.
+const ANEW: u32 = 2_246_822_519;
+
+/// A position whose first place in the library's first sifting goes by a number: 0 is the first of all places, and the
+/// highest of 32 bits the last.
+fn at_place(number: u32, mark: u32) -> Holding {
+    (number.wrapping_sub(mark.wrapping_mul(UPPER)).wrapping_mul(244_002_641), mark, 1)
+}
+
+/// The number that its second place goes by.
+fn second_number((account, mark, _): Holding) -> u32 {
+    account.wrapping_mul(UPPER).wrapping_add(mark.wrapping_mul(LOWER))
+}
+
+/// A position whose two places are one and the same, since account and mark are equal. It goes by four times a number.
+fn at_one_place(number: u32) -> Holding {
+    let account = number.wrapping_mul(3_575_291_465);
+    (account, account, 1)
 }
 
 /// A position that takes account and mark of an earlier one.
@@ -108,11 +130,11 @@ fn repeat(day: &mut Day, earlier: usize, later: usize) {
     day.positions[later] = Position { lots: 2, ..day.positions[earlier] };
 }
 
-/// All have one place: all but the first are left.
+/// All have one first place: all but the first go to their second, and a few find that taken too.
 #[test]
 fn one_place() {
-    let holdings: Vec<(u32, u32, i32)> =
-        (0..MAX_POSITIONS as u32).map(|index| at_place(index / 256 << 12, index % 256)).collect();
+    let holding = |index: u32| at_place(index / 256 << 12, index % 256);
+    let holdings: Vec<Holding> = (0..MAX_POSITIONS as u32).map(holding).collect();
     for count in SIZES {
         let whole = day_with(MAX_MARKS, &holdings[..count]);
         assert_eq!(refused(&whole, count), None);
@@ -124,8 +146,9 @@ fn one_place() {
     }
 }
 
-/// Each place has two: the first half stays, and the second is left. A position that repeats one of the first half is found while they
-/// are sifted, and one that repeats one of the second half among those that are left; the earlier of both is told.
+/// Each first place has two: the first half stays there, and the second half goes to its second places. A position
+/// that repeats one of the first half is found at its first place, and one that repeats one of the second half at its
+/// second; the earlier of both is told.
 #[test]
 fn two_at_each_place() {
     for count in SIZES {
@@ -133,13 +156,13 @@ fn two_at_each_place() {
         let holding = |index: usize| at_place((index % half * (1 << 32) / half) as u32, (index / half) as u32);
         let whole = day_with(2, &(0..count).map(holding).collect::<Vec<_>>());
         assert_eq!(refused(&whole, count), None);
-        let (stays, left, [next, last]) = (half / 2, half, [count - 2, count - 1]);
-        for (earlier, later) in [(stays, last), (left, last), (left, left + 1), (next, last)] {
+        let (stays, goes, [next, last]) = (half / 2, half, [count - 2, count - 1]);
+        for (earlier, later) in [(stays, last), (goes, last), (goes, goes + 1), (next, last)] {
             let mut day = whole.clone();
             repeat(&mut day, earlier, later);
             assert_eq!(refused(&day, count), Some((16, later)));
         }
-        for [first, second] in [[stays, left], [left, stays]] {
+        for [first, second] in [[stays, goes], [goes, stays]] {
             let mut day = whole.clone();
             repeat(&mut day, first, next);
             repeat(&mut day, second, last);
@@ -148,15 +171,109 @@ fn two_at_each_place() {
     }
 }
 
-/// Marks that no file has, up to the highest number: 12 refuses them, and 16 is found by itself. Account and mark together have more than
-/// forty bits; all have one place, or up to sixteen have and up to 256 agree in their lower forty bits.
+/// As many positions as a file may have, of 16 marks. Both places go by numbers below a bound, so that few stay.
+fn crowded(below: u32) -> Vec<Holding> {
+    let holding = |step: u32| at_place((step / 16).wrapping_mul(2_246_822_519) % below, step % 16);
+    (0..).map(holding).filter(|&holding| second_number(holding) < below).take(MAX_POSITIONS).collect()
+}
+
+/// A crowded list in which some are ordinary positions, of another mark.
+fn mixed(crowded: &[Holding], is_ordinary: impl Fn(usize) -> bool) -> Vec<Holding> {
+    let holding = |index: usize| if is_ordinary(index) { (index as u32, 16, 1) } else { crowded[index] };
+    (0..crowded.len()).map(holding).collect()
+}
+
+/// The position that a day is refused with by check 16; no other check refuses it.
+fn told(day: &Day) -> Option<usize> {
+    let (number, index) = refused(day, day.positions.len())?;
+    assert_eq!(number, 16);
+    Some(index)
+}
+
+/// The position that is found for check 16 by itself.
+fn found(day: &Day) -> Option<usize> {
+    find(&day.bytes(), 16)
+}
+
+/// Of these positions none repeats another; where one is made to, or two are, the first of them is answered.
+fn assert_first(answer: fn(&Day) -> Option<usize>, holdings: &[Holding]) {
+    let whole = day_with(MAX_MARKS, holdings);
+    let with = |repeats: &[(usize, usize)]| {
+        let mut day = whole.clone();
+        repeats.iter().for_each(|&(earlier, later)| repeat(&mut day, earlier, later));
+        answer(&day)
+    };
+    assert_eq!(with(&[]), None);
+    let middle = holdings.len() / 2;
+    let [late, next, last] = [3, 2, 1].map(|back| holdings.len() - back);
+    for earlier in [0, 1, middle, late, next] {
+        assert_eq!(with(&[(earlier, last)]), Some(last));
+    }
+    for earlier in [0, 1, middle - 1] {
+        assert_eq!(with(&[(earlier, middle)]), Some(middle));
+    }
+    for [first, second] in [[0, late], [late, 0], [middle, late], [late, middle]] {
+        assert_eq!(with(&[(first, next), (second, last)]), Some(next));
+    }
+}
+
+/// Few stay, and the order of the keys decides: of all, or in a short list of those that are left.
+#[test]
+fn both_places_crowded() {
+    for crowded in [1 << 22, 1 << 26].map(crowded) {
+        for count in SIZES {
+            assert_first(told, &crowded[..count]);
+        }
+    }
+}
+
+/// Ordinary positions stay, between crowded ones or before them. The more there are, the fewer are left: all are put in
+/// order, early or when the list is full; or those that are left are; or these are few and are sifted anew.
+#[test]
+fn crowded_among_ordinary() {
+    for crowded in [1 << 22, 1 << 26].map(crowded) {
+        for count in SIZES {
+            assert_first(told, &mixed(&crowded[..count], |index| index % 2 == 0));
+            for ordinary in [count * 3 / 16, count * 5 / 16, count / 3, count / 2, count * 7 / 8] {
+                assert_first(told, &mixed(&crowded[..count], |index| index < ordinary));
+            }
+        }
+    }
+}
+
+/// Both factors together, after so many times anew.
+fn factors_anew(times: u32) -> u32 {
+    let [lower, upper] = [ANEW, LOWER].map(|factor| factor.wrapping_pow(times));
+    LOWER.wrapping_mul(lower).wrapping_add(UPPER.wrapping_mul(upper))
+}
+
+/// The last quarter is crowded in every sifting: few are left of the first, and of these few stay in the next two.
+#[test]
+fn crowded_anew() {
+    let is_crowded = |account: u32, times| account.wrapping_mul(factors_anew(times)) < 1 << 27;
+    let is_left = |&(account, _, _): &Holding| is_crowded(account, 1) && is_crowded(account, 2);
+    let crowded: Vec<Holding> = (0..).map(at_one_place).filter(is_left).take(MAX_POSITIONS).collect();
+    for count in SIZES {
+        assert_first(found, &mixed(&crowded[..count], |index| index < count * 3 / 4));
+    }
+}
+
+/// Positions of which 256 at a time agree in the lower forty bits of account and mark. All together have 256 places.
+fn agreeing() -> Vec<Holding> {
+    let is_low = |account: u32, factor| account.wrapping_mul(factor) % (1 << 24) < 1 << 18;
+    let accounts = (0..).filter(|&account| is_low(account, LOWER) && is_low(account, UPPER));
+    accounts.take(MAX_POSITIONS / 256).flat_map(|account| (0..256).map(move |mark| (account, mark << 24, 1))).collect()
+}
+
+/// Marks that no file has, up to the highest number: 12 refuses them, and 16 is found by itself. Account and mark
+/// together have more than forty bits. All have one first place, or up to sixteen have and up to 256 agree in their
+/// lower forty bits; then the same with both places.
 #[test]
 fn marks_of_all_sizes() {
-    let scattered = |index: u32| at_place(0, index.wrapping_mul(2_246_822_519));
-    let agreeing = |index: u32| (at_place(index / 256 << 12, 0).0, index % 256 << 24, 1);
-    let lists: [Vec<(u32, u32, i32)>; 2] =
-        [(0..MAX_POSITIONS as u32).map(scattered).collect(), (0..MAX_POSITIONS as u32).map(agreeing).collect()];
-    for holdings in &lists {
+    let list = |holding: fn(u32) -> Holding| (0..MAX_POSITIONS as u32).map(holding).collect::<Vec<_>>();
+    let scattered = list(|index| at_place(0, index.wrapping_mul(2_246_822_519)));
+    let at_sixteen = list(|index| (at_place(index / 256 << 12, 0).0, index % 256 << 24, 1));
+    for holdings in [scattered, at_sixteen, list(at_one_place), agreeing()] {
         for count in SIZES {
             let whole = day_with(1, &holdings[..count]);
             assert_eq!((refused(&whole, count), find(&whole.bytes(), 16)), (Some((12, 1)), None));
