@@ -123,9 +123,9 @@ fn first_of_most(records: &[u8], size: usize, key: Key, n: usize) -> Tried
     requires { ⌜ Keyed key size (now records) n ⌝ }
     ensures { λ r. ⌜ Tries (FirstOf (keyAt key size (now (records .entry))) (λ u. u) n n) r ⌝ }
 {
-    let mut list = [0u16; MOST / 2];
+    let mut list = [0u16; MOST / 2 + 128];
     let mut place = [0u16; MOST_PLACES];
-    let mut other = [0u16; MOST / 2];
+    let mut other = [0u16; MOST / 2 + 128];
     let s = sift_all(records, size, key, n, &mut list, &mut place, &mut other);
     if !s.whole {
         return Tried::Unanswered;
