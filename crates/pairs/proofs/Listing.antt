@@ -2,32 +2,22 @@
 use mathlib.Core.Path.{_≡_, refl, sym, _∙_}
 use mathlib.Core.Bool.{Bool, true, false, cond}
 use mathlib.Core.List.{List}
-use Prim.Native.Nat.{ℕ, _+_, _≤_, _<_}
+use Prim.Native.Nat.{ℕ, _≤_, _<_}
 use native.Mathlib.Omega.{arith}
 use lib.Dec.{eqb, ltb}
-use lib.ListN.{length, set, length-set}
+use lib.ListN.{length, set}
 use borrow.Author.Tests.{lt-ltb, ltb-true, ltb-false, eq-eqb, ne-eqb}
 use Rattle.numbers.specs.Folds.{first, repeating, Filled}
 use Rattle.numbers.specs.declared.Found.the-variants.{At, Nothing}
 use Rattle.numbers.proofs.Searches.{clear-first, first-here, some-at, clear-some}
 use Rattle.pairs.specs.Indices.{at, Hit, FirstOf, Below, All, Puts}
-use Rattle.pairs.specs.Sifting.{Counts, Tries, foundAt}
+use Rattle.pairs.specs.Sifting.{Tries, foundAt}
 use Rattle.pairs.specs.declared.order.Tried.{Tried}
 use Rattle.pairs.specs.declared.order.Tried.the-variants.{Answered, Unanswered}
 use Rattle.pairs.proofs.Trees.{after-set}
 
 pub puts-set : (m k i : ℕ) (list : List ℕ) → k < length list → Puts m i list (set list k i)
 puts-set m k i list l p h a = record { passes = λ u b. after-set (λ (z : ℕ). p z ≡ true) list k u i 0 l (λ e. h) (λ e. a .passes u b) }
-
-pub counts-set : {m k x : ℕ} (list : List ℕ) → Counts m list → k < length list → x ≤ m + 1 → Counts (m + 1) (set list k x)
-counts-set {m} {k} {x} list p l h =
-    record {
-      long = simp length-set (p .long);
-      counted = λ u. after-set (λ (z : ℕ). z ≤ m + 1) list k u x 0 l (λ e. h) (λ e. omega (arith, p .counted u));
-    }
-
-pub counts-same : {m k : ℕ} {list : List ℕ} → m ≡ k → Counts m list → Counts k list
-counts-same e c = rw e at c
 
 -- indices below n, as a test
 pub below-all : {n m : ℕ} {list : List ℕ} → Below n m list → All (λ i. ltb i n) m list

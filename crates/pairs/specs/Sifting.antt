@@ -4,10 +4,9 @@ use mathlib.Core.Path.{_≡_}
 use mathlib.Core.Bool.{cond}
 use mathlib.Core.List.{List}
 use lib.Dec.{ltb}
-use lib.ListN.{length}
 use Rattle.numbers.specs.declared.Found.{Found}
 use Rattle.numbers.specs.declared.Found.the-variants.{At, Nothing}
-use Rattle.pairs.specs.Keys.{word, least}
+use Rattle.pairs.specs.Keys.{word, least, most}
 use Rattle.pairs.specs.Indices.{at, FirstOf, Rising}
 use Rattle.pairs.specs.declared.order.Tried.{Tried}
 use Rattle.pairs.specs.declared.order.Tried.the-variants.{Answered, Unanswered}
@@ -27,10 +26,9 @@ pub record Sifts (key : ℕ → ℕ) (n m : ℕ) (before : ℕ → ℕ) (after :
 abbrev pub digits : ℕ
 digits = 1_024
 
--- counts for three digits, which are at most m
-pub record Counts (m : ℕ) (list : List ℕ) : Type 0 where
-  pub long : 3 * digits ≤ length list
-  pub counted : (u : ℕ) → at list u ≤ m
+-- the entries that the passes work with: counts for three digits, and two digits of each record
+abbrev pub room : ℕ
+room = 3 * digits + 2 * most
 
 -- index j may stand after index i
 pub record After (key : ℕ → ℕ) (i j : ℕ) : Type 0 where

@@ -6,6 +6,7 @@ use crate::keys::looked_at;
 use crate::keys::smaller;
 use crate::lists::list_all;
 use crate::order::Tried;
+use crate::order::WORK;
 use crate::order::first_by_order;
 use crate::pairwise::first_by_pairs;
 use crate::sift::sift_all;
@@ -41,9 +42,6 @@ const MIDDLE_PLACES: usize = 8 * MIDDLE;
 const LARGE_PLACES: usize = 8 * LARGE;
 
 const MOST_PLACES: usize = 4 * MOST;
-
-// Counts for the digits of three passes.
-const COUNTS: usize = 3 * 1_024;
 
 // What an index says: the number of all records that none repeats another.
 fn found_at(i: usize, n: usize) -> Found
@@ -151,10 +149,10 @@ fn tried_in_order(records: &[u8], size: usize, key: Key, n: usize) -> Tried
     ensures { λ r. ⌜ Tries (FirstOf (keyAt key size (now (records .entry))) (λ u. u) n n) r ⌝ }
 {
     let mut list = [0u16; MOST];
-    let mut counts = [0u16; COUNTS];
+    let mut work = [0u16; WORK];
     let mut other = [0u16; MOST];
     list_all(&mut list, n);
-    first_by_order(records, size, key, n, n, &mut list, &mut counts, &mut other)
+    first_by_order(records, size, key, n, n, &mut list, &mut work, &mut other)
 }
 
 // At most LARGE with arrays for these.
