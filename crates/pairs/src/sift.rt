@@ -73,7 +73,7 @@ fn sift(
     place: &mut [u16],
 ) -> Sifted
     requires { ⌜ (Keyed key size (now records) n) × (Rising n m (indexAt listed (now list))) × (listed ≡ true → m ≤ length (now list))
-        × (m ≤ most) × (0 < length (now place)) × (length (now place) ≤ 4 * most) × (Zeros (now place)) × (lower < word) × (upper < word) ⌝ }
+        × (m ≤ most) × (0 < length (now place)) × (length (now place) ≤ 4 * most) × Zeros (now place) × (lower < word) × (upper < word) ⌝ }
     ensures { λ r. ⌜ (r .left ≤ length (now (list .exit))) × (r .whole ≡ true → Sifts (keyAt key size (now (records .entry))) n m
         (indexAt listed (now (list .entry))) (now (list .exit)) (r .found) (r .left)) ⌝ }
 {
