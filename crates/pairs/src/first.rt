@@ -43,6 +43,9 @@ const LARGE_PLACES: usize = 8 * LARGE;
 
 const MOST_PLACES: usize = 4 * MOST;
 
+// So many are left at most where a sifting of MOST records does not give up: as many stay as were to come when 257 were left.
+const MOST_LEFT: usize = MOST / 2 + 128;
+
 // What an index says: the number of all records that none repeats another.
 fn found_at(i: usize, n: usize) -> Found
     ensures { λ r. ⌜ r ≡ foundAt i n ⌝ }
@@ -121,9 +124,9 @@ fn first_of_most(records: &[u8], size: usize, key: Key, n: usize) -> Tried
     requires { ⌜ Keyed key size (now records) n ⌝ }
     ensures { λ r. ⌜ Tries (FirstOf (keyAt key size (now (records .entry))) (λ u. u) n n) r ⌝ }
 {
-    let mut list = [0u16; MOST / 2 + 128];
+    let mut list = [0u16; MOST_LEFT];
     let mut place = [0u16; MOST_PLACES];
-    let mut other = [0u16; MOST / 2 + 128];
+    let mut other = [0u16; MOST_LEFT];
     let s = sift_all(records, size, key, n, &mut list, &mut place, &mut other);
     if !s.whole {
         return Tried::Unanswered;
