@@ -3,8 +3,5 @@ pub mod Least
 pub mod Records
 mod Rooms
 mod Trees
-mod Apart
 mod Listing
-mod Sorted
-mod Runs
 mod Sifted

@@ -1,28 +1,26 @@
 -- A list that is being sifted. Each of the first t listed records stays at a place of its key or is left; one that is left has found
 -- other keys at both places. So where two of them have one key both are left.
 use mathlib.Core.Path.{_≡_, refl, sym, ap, _∙_}
-use mathlib.Core.Bool.{Bool, true, false, cond}
+use mathlib.Core.Bool.{Bool, true, false, false≢true, cond}
 use mathlib.Core.List.{List}
 use mathlib.Core.Logic.{_⊎_, inl, inr, ⊎-elim}
-use Prim.Native.Nat.{ℕ, suc, _+_, _-_, _≤_, _<_}
-use native.Mathlib.Nat.{eq-or-lt-of-le, le-trans}
+use Prim.Native.Nat.{ℕ, zero, suc, _+_, _-_, _*_, _/_, _%_, _≤_, _<_, _^_}
+use native.Mathlib.Nat.{eq-or-lt-of-le, le-trans, lt-of-lt-of-le, div-lt-iff-lt-mul}
 use native.Mathlib.Decide.{decLt}
 use native.Mathlib.Omega.{arith}
-use lib.Dec.{leb}
+use lib.Dec.{leb, eqb}
 use native.Mathlib.Numerals.{add-one}
-use lib.ListN.{length, getD, set}
-use lib.Seq.{getD-set-same, getD-set-other}
-use borrow.Author.Tests.{leb-true, leb-false}
-use Rattle.pairs.specs.Keys.{least}
-use Rattle.pairs.specs.Indices.{at, Hit, Repeats, FirstOf, indexAt}
-use Rattle.pairs.specs.Sifting.{placeOf, Sifts}
+use lib.ListN.{length, getD, set, replicate, length-replicate}
+use lib.Seq.{getD-set-same, getD-set-other, set-getD}
+use lib.Pow.{pow-pos}
+use borrow.Author.Tests.{leb-true, leb-false, ne-eqb}
+use Rattle.pairs.specs.Keys.{word, least}
+use Rattle.pairs.specs.Walks.{Keyed}
+use Rattle.pairs.specs.Indices.{at, Hit, Repeats, FirstOf, Rising, indexAt}
+use Rattle.pairs.specs.Sifting.{placeOf, Places, Held, Holds, Another, Comes, kept, more, Sifts}
+use Rattle.pairs.specs.declared.keys.Key.{Key}
 use Rattle.pairs.proofs.Least.{least-first, least-second, least-below-first, least-below-second}
 use Rattle.pairs.proofs.Trees.{after-set}
-
--- the record at a place has another key than x
-pub record Another (key : ℕ → ℕ) (places : List ℕ) (a x : ℕ) : Type 0 where
-  pub full : getD places a 0 ≡ 0 → ⊥
-  pub differ : (h : ℕ) → getD places a 0 ≡ suc h → key h ≡ x → ⊥
 
 -- record i is at the first place of its key, or at the second, and then another key is at the first
 pub record Stays (key : ℕ → ℕ) (spot : Bool → ℕ → ℕ) (places : List ℕ) (i : ℕ) : Type 0 where
@@ -32,7 +30,7 @@ pub record Stays (key : ℕ → ℕ) (spot : Bool → ℕ → ℕ) (places : Lis
 
 -- the two places of a key: the factors change their parts
 abbrev pub spotOf : ℕ → ℕ → ℕ → Bool → ℕ → ℕ
-spotOf lower upper places second x = cond second (placeOf upper lower places x) (placeOf lower upper places x)
+spotOf lower upper shift second x = cond second (placeOf upper lower shift x) (placeOf lower upper shift x)
 
 pub record Sifting (key : ℕ → ℕ) (spot : Bool → ℕ → ℕ) (before : ℕ → ℕ) (listed : Bool) (places after : List ℕ) (t left : ℕ) : Type 0 where
   pub fewer : left ≤ t
@@ -42,6 +40,26 @@ pub record Sifting (key : ℕ → ℕ) (spot : Bool → ℕ → ℕ) (before : �
   pub rising : (u v : ℕ) → u < v → v < left → at after u < at after v
   pub passed : (u : ℕ) → u < left → (b : Bool) → Another key places (spot b (key (at after u))) (key (at after u))
   pub stays : (i : ℕ) → Hit before t i → Stays key spot places i ⊎ Hit (at after) left i
+
+-- a place is one of the list's
+pub place-below : (lower upper x : ℕ) {shift n : ℕ} {list : List ℕ} → Places shift list → n ≡ length list → placeOf lower upper shift x < n
+unfolding placeOf
+place-below lower upper x {shift} p all = rw all (div-lt-iff-lt-mul (pow-pos shift) .1 (lt-of-lt-of-le below (p .room)))
+  where
+    below : (x % word * lower % word + x / word * upper % word) % word < word
+    below = omega arith
+
+pub spot-below : (lower upper x : ℕ) {shift n : ℕ} {list : List ℕ} → Places shift list → n ≡ length list → (b : Bool) → spotOf lower upper shift b x < n
+spot-below lower upper x p all true = place-below upper lower x p all
+spot-below lower upper x p all false = place-below lower upper x p all
+
+-- places that are all empty
+pub places-in : (shift places : ℕ) → shift < 64 → word ≤ places * 2 ^ shift → Places shift (replicate places 0)
+places-in shift places short room = let z : ℕ = 0 in record { short = short; room = rw (length-replicate places z) room }
+
+-- as many places as before
+pub places-as : {shift : ℕ} {list now : List ℕ} → length now ≡ length list → Places shift list → Places shift now
+places-as q p = record { short = p .short; room = rw q (p .room) }
 
 -- ---- lists that are not sifted yet
 
@@ -83,19 +101,16 @@ hit-set list k x {i} l a =
 
 -- ---- places
 
+-- what is read at a place that is not empty is the number of a record and one
+pub holder : {w x : ℕ} → w ≡ x → (w ≡ 0 → ⊥) → x ≡ suc (w - 1)
+holder is full = omega (arith, is, full)
+
 pub another : {key : ℕ → ℕ} {places : List ℕ} {a x h : ℕ} → getD places a 0 ≡ suc h → (key h ≡ x → ⊥) → Another key places a x
 another {key} {places} {a} {x} {h} is other =
     record {
       full = λ p. omega (arith, p, is);
       differ = λ g p q. let same : g ≡ h = omega (arith, p, is) in other (ap key (sym same) ∙ q);
     }
-
--- what is read at a place that is not empty is the number of a record and one
-pub holder : {w x : ℕ} → w ≡ x → (w ≡ 0 → ⊥) → x ≡ suc (w - 1)
-holder is full = omega (arith, is, full)
-
-pub another-at : {key : ℕ → ℕ} {places : List ℕ} {a b x : ℕ} → a ≡ b → Another key places a x → Another key places b x
-another-at q w = rw (sym q) w
 
 -- it stays so where a record comes to an empty place
 another-set : {key : ℕ → ℕ} (places : List ℕ) (e v : ℕ) {a x : ℕ} → e < length places → getD places e 0 ≡ 0 → Another key places a x
@@ -112,7 +127,7 @@ another-set {key} places e v {a} {x} l empty w =
 module _ {key : ℕ → ℕ} {spot : Bool → ℕ → ℕ} {before : ℕ → ℕ} {listed : Bool} {places list : List ℕ} {t left : ℕ}
     (s : Sifting key spot before listed places list t left) where
   -- the record that is looked at has a place for itself, and stays
-  pub stay : (b : Bool) {i e : ℕ} → i ≡ before t → e ≡ spot b (key i) → getD places e 0 ≡ 0 → e < length places
+  stay : (b : Bool) {i e : ℕ} → i ≡ before t → e ≡ spot b (key i) → getD places e 0 ≡ 0 → e < length places
       → (b ≡ true → Another key places (spot false (key i)) (key i))
       → Sifting key spot before listed (set places e (i + 1)) list (t + 1) left
   stay b {i} {e} is spot-is empty l first =
@@ -151,7 +166,7 @@ module _ {key : ℕ → ℕ} {spot : Bool → ℕ → ℕ} {before : ℕ → ℕ
       still j (inr c) = inr c
 
   -- it has found other keys at both places, and is left
-  pub leave : {i : ℕ} → i ≡ before t → Another key places (spot false (key i)) (key i) → Another key places (spot true (key i)) (key i)
+  leave : {i : ℕ} → i ≡ before t → Another key places (spot false (key i)) (key i) → Another key places (spot true (key i)) (key i)
       → left < length list → ((u : ℕ) → u < t → before u < before t) → Sifting key spot before listed places (set list left i) (t + 1) (left + 1)
   leave {i} is first second l up =
       record {
@@ -195,6 +210,41 @@ module _ {key : ℕ → ℕ} {spot : Bool → ℕ → ℕ} {before : ℕ → ℕ
 
       by-end : (P : ℕ → Type 0) (u : ℕ) → u < left + 1 → P left → (u < left → P u) → P u
       by-end P u k a b = ⊎-elim (λ (q : u ≡ left). rw q a) b (eq-or-lt-of-le (omega arith))
+
+  -- the places are as they were
+  pub as-was : {now : List ℕ} → now ≡ places → Sifting key spot before listed now list t left
+  as-was q = rw q s
+
+  -- the places have records that were looked at
+  pub held-few : {n m : ℕ} → Rising n m before → t < m → (e : ℕ) → getD places e 0 ≤ n
+  held-few {n} r h e = within (getD places e 0) refl
+    where
+      within : (a : ℕ) → getD places e 0 ≡ a → a ≤ n
+      within zero p = omega arith
+      within (suc a) p = let b = s .held e a p in let below = r .below (b .place) (omega (arith, b .below)) in omega (arith, b .is)
+
+  pub held-of : {n m size : ℕ} {k : Key} {bytes : List ℕ} → Keyed k size bytes n → Rising n m before → t < m → Held (length bytes / size) places
+  held-of w r h e = le-trans (held-few r h e) (w .whole)
+
+  -- an entry after those that are left may be anything
+  scribbled : (v : ℕ) → left < t → Sifting key spot before listed places (set list left v) t left
+  scribbled v h =
+      record {
+        fewer = s .fewer;
+        tail = λ u k. beyond listed u (λ q. omega (arith, q, h, k)) ∙ s .tail u k;
+        held = s .held;
+        leaves = λ u k. rw (as-it-was u k) (s .leaves u k);
+        rising = λ u w k l. rw (as-it-was u (omega arith), as-it-was w l) (s .rising u w k l);
+        passed = λ u k c. rw (as-it-was u k) (s .passed u k c);
+        stays = λ i a. ⊎-elim (λ p. inl p) (λ c. inr (record { place = c .place; below = c .below; is = as-it-was (c .place) (c .below) ∙ c .is })) (s .stays i a);
+      }
+    where
+      as-it-was : (u : ℕ) → u < left → at (set list left v) u ≡ at list u
+      as-it-was u k = getD-set-other list left u v 0 (λ q. omega (arith, q))
+
+      beyond : (b : Bool) (u : ℕ) → (u ≡ left → ⊥) → indexAt b (set list left v) u ≡ indexAt b list u
+      beyond true u q = getD-set-other list left u v 0 q
+      beyond false u q = refl
 
   -- where one with a key stays none with the same is left
   stays-alone : (i j : ℕ) → Stays key spot places i → Hit (at list) left j → key i ≡ key j → ⊥
@@ -266,19 +316,19 @@ module _ {key : ℕ → ℕ} {spot : Bool → ℕ → ℕ} {before : ℕ → ℕ
 
   module _ {n m : ℕ} (up : (u v : ℕ) → u < v → v < m → before u < before v) (below : (u : ℕ) → u < m → before u < n) where
     -- the record that is looked at has the key of one that stays
-    pub sifted-found : (a h : ℕ) {i : ℕ} → t < m → i ≡ before t → getD places a 0 ≡ suc h → key h ≡ key i → Sifts key n m before list i left
-    sifted-found a h {i} l is held-is same =
+    pub sifted-found : {i x : ℕ} → t < m → i ≡ before t → x ≡ key i → Holds key places x → Sifts key n m before list i left
+    sifted-found {i} l is key-is w =
         sifted
         (omega arith)
         (let b = below t l in omega (arith, is))
         (λ k.
-        let b = s .held a h held-is in
+        let b = s .held (w .place) (w .holder) (w .there) in
         record {
           listed = record { place = t; below = l; is = sym is };
-          other = h;
+          other = w .holder;
           listed-too = record { place = b .place; below = omega (arith, b .below); is = b .is };
           lower = let c = up (b .place) t (b .below) l in omega (arith, c, b .is, is);
-          same = same;
+          same = w .same ∙ key-is;
         })
         (λ u k b.
         ⊎-elim (λ (q : t ≡ u). omega (arith, ap before q, is)) (λ (q : t < u). let c = up t u q b in omega (arith, is)) (eq-or-lt-of-le k))
@@ -288,6 +338,33 @@ module _ {key : ℕ → ℕ} {spot : Bool → ℕ → ℕ} {before : ℕ → ℕ
     -- all records are looked at
     pub sifted-all : t ≤ m → m ≤ t → Sifts key n m before list n left
     sifted-all l k = sifted l (omega arith) (λ h. absurd (omega arith)) (λ u a b. absurd (omega arith)) up below
+
+-- ---- one record more
+
+module _ {key : ℕ → ℕ} {spot : Bool → ℕ → ℕ} {before : ℕ → ℕ} {listed : Bool} {places list : List ℕ} {t left : ℕ}
+    (s : Sifting key spot before listed places list t left) {i x : ℕ} (is : i ≡ before t) (key-is : x ≡ key i) where
+  -- it stays at its first place
+  pub stays-first : {after : List ℕ} → Comes i places (spot false x) after → spot false x < length places
+      → Sifting key spot before listed after list (t + 1) left
+  stays-first w l = rw (w .is) (stay s false is (ap (spot false) key-is) (w .empty) l (λ q. absurd (false≢true q)))
+
+  -- another key is at the first: it stays at its second place, or is left
+  pub stays-second : Another key places (spot false x) x → ((getD places (spot true x) 0 ≡ 0 → ⊥) → Another key places (spot true x) x)
+      → spot true x < length places → left < length list → ((u : ℕ) → u < t → before u < before t)
+      → Sifting key spot before listed (set places (spot true x) (kept (getD places (spot true x) 0) (i + 1))) (set list left i) (t + 1)
+      (more left (getD places (spot true x) 0))
+  stays-second first second l room up = go (getD places (spot true x) 0) refl
+    where
+      there : (b : Bool) → Another key places (spot b x) x → Another key places (spot b (key i)) (key i)
+      there b w = rw (sym key-is) w
+
+      go : (held : ℕ) → getD places (spot true x) 0 ≡ held
+          → Sifting key spot before listed (set places (spot true x) (kept held (i + 1))) (set list left i) (t + 1) (more left held)
+      go zero p = scribbled (stay s true is (ap (spot true) key-is) p l (λ q. there false first)) i (omega (arith, s .fewer))
+      go (suc h) p =
+          let taken : eqb (suc h) 0 ≡ false = ne-eqb (suc h) 0 (λ q. omega (arith, q)) in
+          let same : set places (spot true x) (suc h) ≡ places = ap (λ k. set places (spot true x) k) (sym p) ∙ set-getD places (spot true x) 0 in
+          rw (taken, same) (leave s is (there false first) (there true (second (λ q. omega (arith, p, q)))) room up)
 
 -- ---- sifted anew
 
@@ -304,3 +381,22 @@ pub sifts-sifts : {key before : ℕ → ℕ} {n m k left a b : ℕ} {mid after :
     → Sifts key n m before mid a k → Sifts key n k (at mid) after b left → Sifts key n m before after (least b a) left
 sifts-sifts {left = left} {a = a} {b = b} s r =
     record { fewer = omega (arith, s .fewer, r .fewer); listed = r .listed; answers = λ o w. rw (sym (least-least o b a)) (s .answers (least o b) (r .answers o w)) }
+
+-- a turn: of those that are left, or of all where nothing is known of the list
+pub sifts-anew : {key : ℕ → ℕ} {n left k found anew : ℕ} {list after : List ℕ} (whole : Bool)
+    → (whole ≡ true → Sifts key n n (λ u. u) list found left)
+    → Sifts key n (cond whole left n) (indexAt whole list) after anew k
+    → Sifts key n n (λ u. u) after (cond whole (least anew found) anew) k
+sifts-anew true s r = sifts-sifts (s refl) r
+sifts-anew false s r = r
+
+-- and the records of a turn
+pub rising-anew : {key : ℕ → ℕ} {n left found : ℕ} {list : List ℕ} (whole : Bool)
+    → (whole ≡ true → Sifts key n n (λ u. u) list found left) → Rising n (cond whole left n) (indexAt whole list)
+rising-anew true s = s refl .listed
+rising-anew false s = record { below = λ u h. h; rising = λ u v h k. h }
+
+pub few-anew : {key : ℕ → ℕ} {n left found : ℕ} {list : List ℕ} (whole : Bool)
+    → (whole ≡ true → Sifts key n n (λ u. u) list found left) → cond whole left n ≤ n
+few-anew true s = s refl .fewer
+few-anew false s = omega arith

@@ -30,10 +30,6 @@ pub record FirstOf (key f : ℕ → ℕ) (n m i : ℕ) : Type 0 where
   pub repeats : i < n → Repeats key f m i
   pub lowest : (j k : ℕ) → Hit f m j → Hit f m k → j < k → key j ≡ key k → i ≤ k
 
--- m indices below n
-pub record Below (n m : ℕ) (list : List ℕ) : Type 0 where
-  pub index : (u : ℕ) → u < m → at list u < n
-
 -- m indices below n, each above the one before
 pub record Rising (n m : ℕ) (f : ℕ → ℕ) : Type 0 where
   pub below : (u : ℕ) → u < m → f u < n
@@ -42,19 +38,3 @@ pub record Rising (n m : ℕ) (f : ℕ → ℕ) : Type 0 where
 -- the entry of a list, or without one the index itself
 abbrev pub indexAt : Bool → List ℕ → ℕ → ℕ
 indexAt listed list u = cond listed (at list u) u
-
--- the first m entries of a list pass a test
-pub record All (p : ℕ → Bool) (m : ℕ) (list : List ℕ) : Type 0 where
-  pub passes : (u : ℕ) → u < m → p (at list u) ≡ true
-
--- an index is put at a place of a list: what passes a test is what did, or the index
-abbrev pub Puts : ℕ → ℕ → List ℕ → List ℕ → Type 0
-Puts m i before after = (p : ℕ → Bool) → p i ≡ true → All p m before → All p m after
-
--- indices of a list are put into another
-abbrev pub Moves : ℕ → List ℕ → List ℕ → List ℕ → Type 0
-Moves m from before after = (p : ℕ → Bool) → All p m from → All p m before → All p m after
-
--- indices are moved between two lists
-abbrev pub Swaps : ℕ → List ℕ → List ℕ → List ℕ → List ℕ → Type 0
-Swaps m a b a′ b′ = (p : ℕ → Bool) → All p m a → All p m b → All p m a′ × All p m b′

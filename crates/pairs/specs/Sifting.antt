@@ -1,19 +1,67 @@
--- Sifting a list, and putting it in order. No statement of what the code answers rests on this.
-use Prim.Native.Nat.{ℕ, suc, _+_, _*_, _/_, _%_, _≤_, _<_}
+-- Sifting a list. No statement of what the code answers rests on this.
+use Prim.Native.Nat.{ℕ, suc, _+_, _*_, _/_, _%_, _≤_, _<_, _^_}
 use mathlib.Core.Path.{_≡_}
-use mathlib.Core.Bool.{cond}
+use mathlib.Core.Bool.{Bool, true, false, cond}
 use mathlib.Core.List.{List}
-use lib.Dec.{ltb}
+use lib.ListN.{length, getD, set}
+use lib.Dec.{eqb, ltb}
 use Rattle.numbers.specs.declared.Found.{Found}
 use Rattle.numbers.specs.declared.Found.the-variants.{At, Nothing}
-use Rattle.pairs.specs.Keys.{word, least, most}
+use Rattle.pairs.specs.Keys.{word, least}
 use Rattle.pairs.specs.Indices.{at, FirstOf, Rising}
-use Rattle.pairs.specs.declared.order.Tried.{Tried}
-use Rattle.pairs.specs.declared.order.Tried.the-variants.{Answered, Unanswered}
+use Rattle.pairs.specs.declared.sift.Placed.{Placed}
+use Rattle.pairs.specs.declared.sift.Placed.the-variants.{Stays, Repeats, Differs}
+use Rattle.pairs.specs.declared.first.Tried.{Tried}
+use Rattle.pairs.specs.declared.first.Tried.the-variants.{Answered, Unanswered}
 
--- where a key has its place among so many
+-- where a key has its place
 unfoldable pub placeOf : ℕ → ℕ → ℕ → ℕ → ℕ
-placeOf lower upper places x = (x % word * lower % word + x / word * upper % word) % word * places / word
+placeOf lower upper shift x = (x % word * lower % word + x / word * upper % word) % word / 2 ^ shift
+
+-- a list has room for all these places
+pub record Places (shift : ℕ) (list : List ℕ) : Type 0 where
+  pub short : shift < 64
+  pub room : word ≤ length list * 2 ^ shift
+
+-- each place is empty or has one of n records: the entry is 0, or one more than the record's index
+abbrev pub Held : ℕ → List ℕ → Type 0
+Held n places = (a : ℕ) → getD places a 0 ≤ n
+
+-- a record at a place has key x
+pub record Holds (key : ℕ → ℕ) (places : List ℕ) (x : ℕ) : Type 0 where
+  pub place : ℕ
+  pub holder : ℕ
+  pub there : getD places place 0 ≡ suc holder
+  pub same : key holder ≡ x
+
+-- the record at a place has another key than x
+pub record Another (key : ℕ → ℕ) (places : List ℕ) (a x : ℕ) : Type 0 where
+  pub full : getD places a 0 ≡ 0 → ⊥
+  pub differ : (h : ℕ) → getD places a 0 ≡ suc h → key h ≡ x → ⊥
+
+-- record i comes to an empty place
+pub record Comes (i : ℕ) (before : List ℕ) (a : ℕ) (after : List ℕ) : Type 0 where
+  pub empty : getD before a 0 ≡ 0
+  pub is : after ≡ set before a (i + 1)
+
+-- what comes of the try of record i, whose key is x, at a place
+abbrev pub TriedAt : (ℕ → ℕ) → List ℕ → ℕ → ℕ → ℕ → List ℕ → Placed → Type 0
+TriedAt key before a i x after Stays = Comes i before a after
+TriedAt key before a i x after Repeats = (after ≡ before) × Holds key after x
+TriedAt key before a i x after Differs = (after ≡ before) × Another key after a x
+
+-- what comes of a look at a second place, where the first has another key
+pub record TriedSecond (key : ℕ → ℕ) (places : List ℕ) (b x : ℕ) (r : Bool) : Type 0 where
+  pub same : r ≡ true → Holds key places x
+  pub differ : r ≡ false → (getD places b 0 ≡ 0 → ⊥) → Another key places b x
+
+-- what a place has, or where it is empty what comes there
+abbrev pub kept : ℕ → ℕ → ℕ
+kept held i = cond (eqb held 0) i held
+
+-- and how many are left then
+abbrev pub more : ℕ → ℕ → ℕ
+more left held = cond (eqb held 0) left (left + 1)
 
 -- of m listed records some are left in the list; the first of these that repeats an earlier one, or what was found, whichever is lower, is
 -- the first of all
@@ -21,35 +69,6 @@ pub record Sifts (key : ℕ → ℕ) (n m : ℕ) (before : ℕ → ℕ) (after :
   pub fewer : left ≤ m
   pub listed : Rising n left (at after)
   pub answers : (o : ℕ) → FirstOf key (at after) n left o → FirstOf key before n m (least o found)
-
--- ten bits
-abbrev pub digits : ℕ
-digits = 1_024
-
--- the entries that the passes work with: counts for three digits, and two digits of each record
-abbrev pub room : ℕ
-room = 3 * digits + 2 * most
-
--- index j may stand after index i
-pub record After (key : ℕ → ℕ) (i j : ℕ) : Type 0 where
-  pub up : key i ≤ key j
-  pub rising : key i ≡ key j → i < j
-
--- i stands after an index with the same key
-pub record Twin (key f : ℕ → ℕ) (t i : ℕ) : Type 0 where
-  pub place : ℕ
-  pub other : ℕ
-  pub earlier : other < place
-  pub below : place < t
-  pub is : f place ≡ i
-  pub same : key (f other) ≡ key (f place)
-
--- t indices are in order but for the lowest ten bits of their keys, and the lowest that stands after one with the same key is found, or n
-pub record Ordered (key f : ℕ → ℕ) (n t found : ℕ) : Type 0 where
-  pub next : (u : ℕ) → suc u < t → After (λ i. key i / 1_024) (f u) (f (suc u))
-  pub within : found ≤ n
-  pub twin : found < n → Twin key f t found
-  pub lowest : (u v : ℕ) → u < v → v < t → key (f u) ≡ key (f v) → found ≤ f v
 
 -- the first of n records, from its index or n
 abbrev pub foundAt : ℕ → ℕ → Found

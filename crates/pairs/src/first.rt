@@ -1,24 +1,25 @@
-// The first record that repeats an earlier one: by sifting; by the order of the keys, where too many records are left of it; and of a
-// handful by every pair.
+// The first record that repeats an earlier one: by sifting, and of a handful by every pair.
 use crate::keys::Key;
 use crate::keys::MOST;
 use crate::keys::looked_at;
 use crate::keys::smaller;
-use crate::lists::list_all;
-use crate::order::Tried;
-use crate::order::WORK;
-use crate::order::first_by_order;
 use crate::pairwise::first_by_pairs;
 use crate::sift::sift_all;
 use numbers::Found;
 ghost use mathlib.Core.Path.{_≡_};
-ghost use Prim.Native.Nat.{_*_, _≤_, _<_};
+ghost use Prim.Native.Nat.{_+_, _≤_};
 ghost use lib.ListN.{length};
 ghost use Rattle.numbers.specs.Folds.{first, repeating};
-ghost use Rattle.pairs.specs.Keys.{keyAt, lookedAt, sameKeyIn, most};
+ghost use Rattle.pairs.specs.Keys.{keyAt, lookedAt, sameKeyIn};
 ghost use Rattle.pairs.specs.Walks.{Keyed, Zeros};
 ghost use Rattle.pairs.specs.Indices.{FirstOf};
-ghost use Rattle.pairs.specs.Sifting.{foundAt, Tries};
+ghost use Rattle.pairs.specs.Sifting.{foundAt, Places, Tries};
+
+// What comes of a search: the index of the first record that repeats an earlier one, or the number of all records; or no answer.
+pub enum Tried {
+    Answered(usize),
+    Unanswered,
+}
 
 // So many records are a handful: an array would not be worth while.
 const HANDFUL: usize = 8;
@@ -32,19 +33,26 @@ const MIDDLE: usize = 512;
 
 const LARGE: usize = 1_024;
 
-// Eight places for each record, or four, so that few records are left.
+// Eight places for each record, or four, so that few records are left; and by how many bits a number of 32 is shifted to choose one.
 const SMALL_PLACES: usize = 8 * SMALL;
+
+const SMALL_SHIFT: u32 = 24;
 
 const SHORT_PLACES: usize = 8 * SHORT;
 
+const SHORT_SHIFT: u32 = 22;
+
 const MIDDLE_PLACES: usize = 8 * MIDDLE;
+
+const MIDDLE_SHIFT: u32 = 20;
 
 const LARGE_PLACES: usize = 8 * LARGE;
 
+const LARGE_SHIFT: u32 = 19;
+
 const MOST_PLACES: usize = 4 * MOST;
 
-// So many are left at most where a sifting of MOST records does not give up: as many stay as were to come when 257 were left.
-const MOST_LEFT: usize = MOST / 2 + 128;
+const MOST_SHIFT: u32 = 18;
 
 // What an index says: the number of all records that none repeats another.
 fn found_at(i: usize, n: usize) -> Found
@@ -61,13 +69,14 @@ fn first_in(
     n: usize,
     list: &mut [u16],
     place: &mut [u16],
+    shift: u32,
     other: &mut [u16],
 ) -> Tried
-    requires { ⌜ (Keyed key size (now records) n) × (0 < length (now place)) × (length (now place) ≤ 4 * most) × Zeros (now place)
-        × (0 < length (now other)) × (length (now other) ≤ 4 * most) ⌝ }
+    requires { ⌜ (Keyed key size (now records) n) × (n ≤ length (now list)) × (Places shift (now place)) × (Zeros (now place))
+        × Places (shift + 4) (now other) ⌝ }
     ensures { λ r. ⌜ Tries (FirstOf (keyAt key size (now (records .entry))) (λ u. u) n n) r ⌝ }
 {
-    let s = sift_all(records, size, key, n, list, place, other);
+    let s = sift_all(records, size, key, n, list, place, shift, other);
     if s.whole & (s.left == 0) {
         Tried::Answered(smaller(n, s.found))
     } else {
@@ -80,10 +89,19 @@ fn first_small(records: &[u8], size: usize, key: Key, n: usize) -> Tried
     requires { ⌜ (Keyed key size (now records) n) × (n ≤ 32) ⌝ }
     ensures { λ r. ⌜ Tries (FirstOf (keyAt key size (now (records .entry))) (λ u. u) n n) r ⌝ }
 {
-    let mut list = [0u16; SMALL / 4];
+    let mut list = [0u16; SMALL];
     let mut place = [0u16; SMALL_PLACES];
-    let mut other = [0u16; SMALL / 4];
-    first_in(records, size, key, n, &mut list, &mut place, &mut other)
+    let mut other = [0u16; SMALL / 2];
+    first_in(
+        records,
+        size,
+        key,
+        n,
+        &mut list,
+        &mut place,
+        SMALL_SHIFT,
+        &mut other,
+    )
 }
 
 // At most SHORT.
@@ -91,10 +109,19 @@ fn first_short(records: &[u8], size: usize, key: Key, n: usize) -> Tried
     requires { ⌜ (Keyed key size (now records) n) × (n ≤ 128) ⌝ }
     ensures { λ r. ⌜ Tries (FirstOf (keyAt key size (now (records .entry))) (λ u. u) n n) r ⌝ }
 {
-    let mut list = [0u16; SHORT / 4];
+    let mut list = [0u16; SHORT];
     let mut place = [0u16; SHORT_PLACES];
-    let mut other = [0u16; SHORT / 4];
-    first_in(records, size, key, n, &mut list, &mut place, &mut other)
+    let mut other = [0u16; SHORT / 2];
+    first_in(
+        records,
+        size,
+        key,
+        n,
+        &mut list,
+        &mut place,
+        SHORT_SHIFT,
+        &mut other,
+    )
 }
 
 // At most MIDDLE.
@@ -102,10 +129,19 @@ fn first_middle(records: &[u8], size: usize, key: Key, n: usize) -> Tried
     requires { ⌜ (Keyed key size (now records) n) × (n ≤ 512) ⌝ }
     ensures { λ r. ⌜ Tries (FirstOf (keyAt key size (now (records .entry))) (λ u. u) n n) r ⌝ }
 {
-    let mut list = [0u16; MIDDLE / 4];
+    let mut list = [0u16; MIDDLE];
     let mut place = [0u16; MIDDLE_PLACES];
-    let mut other = [0u16; MIDDLE / 4];
-    first_in(records, size, key, n, &mut list, &mut place, &mut other)
+    let mut other = [0u16; MIDDLE / 2];
+    first_in(
+        records,
+        size,
+        key,
+        n,
+        &mut list,
+        &mut place,
+        MIDDLE_SHIFT,
+        &mut other,
+    )
 }
 
 // At most LARGE.
@@ -113,148 +149,72 @@ fn first_large(records: &[u8], size: usize, key: Key, n: usize) -> Tried
     requires { ⌜ (Keyed key size (now records) n) × (n ≤ 1_024) ⌝ }
     ensures { λ r. ⌜ Tries (FirstOf (keyAt key size (now (records .entry))) (λ u. u) n n) r ⌝ }
 {
-    let mut list = [0u16; LARGE / 4];
+    let mut list = [0u16; LARGE];
     let mut place = [0u16; LARGE_PLACES];
-    let mut other = [0u16; LARGE / 4];
-    first_in(records, size, key, n, &mut list, &mut place, &mut other)
-}
-
-// As many as are looked at. Those that are left are put in order.
-fn first_of_most(records: &[u8], size: usize, key: Key, n: usize) -> Tried
-    requires { ⌜ Keyed key size (now records) n ⌝ }
-    ensures { λ r. ⌜ Tries (FirstOf (keyAt key size (now (records .entry))) (λ u. u) n n) r ⌝ }
-{
-    let mut list = [0u16; MOST_LEFT];
-    let mut place = [0u16; MOST_PLACES];
-    let mut other = [0u16; MOST_LEFT];
-    let s = sift_all(records, size, key, n, &mut list, &mut place, &mut other);
-    if !s.whole {
-        return Tried::Unanswered;
-    }
-    match first_by_order(
+    let mut other = [0u16; LARGE / 2];
+    first_in(
         records,
         size,
         key,
         n,
-        s.left,
         &mut list,
         &mut place,
+        LARGE_SHIFT,
         &mut other,
-    ) {
-        Tried::Answered(i) => Tried::Answered(smaller(i, s.found)),
-        Tried::Unanswered => Tried::Unanswered,
-    }
+    )
 }
 
-// All of them, put in order.
-fn tried_in_order(records: &[u8], size: usize, key: Key, n: usize) -> Tried
+// As many as are looked at.
+fn first_of_most(records: &[u8], size: usize, key: Key, n: usize) -> Tried
     requires { ⌜ Keyed key size (now records) n ⌝ }
     ensures { λ r. ⌜ Tries (FirstOf (keyAt key size (now (records .entry))) (λ u. u) n n) r ⌝ }
 {
     let mut list = [0u16; MOST];
-    let mut work = [0u16; WORK];
-    let mut other = [0u16; MOST];
-    list_all(&mut list, n);
-    first_by_order(records, size, key, n, n, &mut list, &mut work, &mut other)
+    let mut place = [0u16; MOST_PLACES];
+    let mut other = [0u16; MOST / 4];
+    first_in(
+        records,
+        size,
+        key,
+        n,
+        &mut list,
+        &mut place,
+        MOST_SHIFT,
+        &mut other,
+    )
 }
 
-// At most LARGE with arrays for these.
-fn tried_large(records: &[u8], size: usize, key: Key, n: usize) -> Tried
+// The same with the shortest arrays that will do.
+fn first_sifted(records: &[u8], size: usize, key: Key, n: usize) -> Tried
     requires { ⌜ Keyed key size (now records) n ⌝ }
     ensures { λ r. ⌜ Tries (FirstOf (keyAt key size (now (records .entry))) (λ u. u) n n) r ⌝ }
 {
-    if LARGE < n {
-        return Tried::Unanswered;
+    if n <= SMALL {
+        first_small(records, size, key, n)
+    } else if n <= SHORT {
+        first_short(records, size, key, n)
+    } else if n <= MIDDLE {
+        first_middle(records, size, key, n)
+    } else if n <= LARGE {
+        first_large(records, size, key, n)
+    } else {
+        first_of_most(records, size, key, n)
     }
-    first_large(records, size, key, n)
-}
-
-// At most LARGE with arrays for these, and where some records are left of them, or there are more, with the longest.
-fn tried_most(records: &[u8], size: usize, key: Key, n: usize) -> Tried
-    requires { ⌜ Keyed key size (now records) n ⌝ }
-    ensures { λ r. ⌜ Tries (FirstOf (keyAt key size (now (records .entry))) (λ u. u) n n) r ⌝ }
-{
-    match tried_large(records, size, key, n) {
-        Tried::Answered(i) => {
-            return Tried::Answered(i);
-        }
-        Tried::Unanswered => {}
-    }
-    first_of_most(records, size, key, n)
-}
-
-// The first of n records that repeats an earlier one, without sifting. The order of all always answers; that it does is not proved, and
-// nothing but the time depends on it.
-fn first_of_all(records: &[u8], size: usize, key: Key, n: usize) -> Found
-    requires { ⌜ Keyed key size (now records) n ⌝ }
-    ensures { λ r. ⌜ r ≡ first (repeating (sameKeyIn key size (now (records .entry)))) n ⌝ }
-{
-    match tried_in_order(records, size, key, n) {
-        Tried::Answered(i) => {
-            return found_at(i, n);
-        }
-        Tried::Unanswered => {}
-    }
-    first_by_pairs(records, size, key, n)
-}
-
-// At most SHORT or MIDDLE with arrays for these.
-fn tried_middle(records: &[u8], size: usize, key: Key, n: usize) -> Tried
-    requires { ⌜ (Keyed key size (now records) n) × (n ≤ 512) ⌝ }
-    ensures { λ r. ⌜ Tries (FirstOf (keyAt key size (now (records .entry))) (λ u. u) n n) r ⌝ }
-{
-    if n <= SHORT {
-        return first_short(records, size, key, n);
-    }
-    first_middle(records, size, key, n)
-}
-
-// At most SMALL with arrays for these, and where some records are left of them, or there are more, with longer ones.
-fn tried_small(records: &[u8], size: usize, key: Key, n: usize) -> Tried
-    requires { ⌜ (Keyed key size (now records) n) × (n ≤ 512) ⌝ }
-    ensures { λ r. ⌜ Tries (FirstOf (keyAt key size (now (records .entry))) (λ u. u) n n) r ⌝ }
-{
-    if SMALL < n {
-        return tried_middle(records, size, key, n);
-    }
-    match first_small(records, size, key, n) {
-        Tried::Answered(i) => {
-            return Tried::Answered(i);
-        }
-        Tried::Unanswered => {}
-    }
-    tried_middle(records, size, key, n)
 }
 
 // The first record that has the key of an earlier one. Records after the first MOST are not looked at, and none where a record is shorter
-// than its key.
+// than its key. That sifting always answers is not proved, and nothing but the time depends on it.
 pub fn first_repeated(records: &[u8], size: usize, key: Key) -> Found
     ensures { λ r. ⌜ r ≡ first (repeating (sameKeyIn key size (now (records .entry)))) (lookedAt key size (now (records .entry))) ⌝ }
 {
     let n = looked_at(records, size, key);
-    if n <= HANDFUL {
-        return first_by_pairs(records, size, key, n);
-    }
-    if MIDDLE < n {
-        match tried_most(records, size, key, n) {
+    if HANDFUL < n {
+        match first_sifted(records, size, key, n) {
             Tried::Answered(i) => {
                 return found_at(i, n);
             }
             Tried::Unanswered => {}
         }
-        return first_of_all(records, size, key, n);
     }
-    match tried_small(records, size, key, n) {
-        Tried::Answered(i) => {
-            return found_at(i, n);
-        }
-        Tried::Unanswered => {}
-    }
-    match tried_most(records, size, key, n) {
-        Tried::Answered(i) => {
-            return found_at(i, n);
-        }
-        Tried::Unanswered => {}
-    }
-    first_of_all(records, size, key, n)
+    first_by_pairs(records, size, key, n)
 }

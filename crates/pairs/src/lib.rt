@@ -3,7 +3,6 @@
 mod first;
 mod keys;
 mod lists;
-mod order;
 mod pairwise;
 mod sift;
 mod walks;

@@ -1,32 +1,19 @@
 // Lists of records' indices.
-ghost use Prim.Native.Nat.{_≤_};
+use crate::keys::wide;
+ghost use mathlib.Core.Path.{_≡_};
+ghost use mathlib.Core.Bool.{true};
+ghost use Prim.Native.Nat.{_≤_, _<_};
 ghost use lib.ListN.{length};
-ghost use Rattle.numbers.specs.Folds.{Filled};
+ghost use Rattle.pairs.specs.Keys.{most};
 ghost use Rattle.pairs.specs.Walks.{Zeros};
-ghost use Rattle.pairs.specs.Indices.{at};
+ghost use Rattle.pairs.specs.Indices.{indexAt};
 
-// Copies m entries.
-pub(crate) fn copy(from: &[u16], to: &mut [u16], m: usize)
-    requires { ⌜ (m ≤ length (now from)) × (m ≤ length (now to)) ⌝ }
-    ensures { λ _. ⌜ Filled 0 (at (now (from .entry))) m (now (to .exit)) ⌝ }
+// An entry of a list, or without one the index itself.
+pub(crate) fn index_at(list: &[u16], listed: bool, t: usize) -> usize
+    requires { ⌜ (listed ≡ true → t < length (now list)) × (t ≤ most) ⌝ }
+    ensures { λ r. ⌜ r ≡ indexAt listed (now (list .entry)) t ⌝ }
 {
-    let mut u = 0;
-    while u < m {
-        to[u] = from[u];
-        u += 1;
-    }
-}
-
-// Lists the first m records.
-pub(crate) fn list_all(list: &mut [u16], m: usize)
-    requires { ⌜ (m ≤ length (now list)) × (m ≤ 65_536) ⌝ }
-    ensures { λ _. ⌜ Filled 0 (λ u. u) m (now (list .exit)) ⌝ }
-{
-    let mut u = 0;
-    while u < m {
-        list[u] = u as u16;
-        u += 1;
-    }
+    if listed { wide(list[t]) } else { t }
 }
 
 // Makes all entries 0.

@@ -7,14 +7,15 @@ use crate::keys::key_at;
 use crate::keys::smaller;
 use crate::keys::wide;
 use crate::lists::clear;
+use crate::lists::index_at;
 ghost use mathlib.Core.Path.{_≡_};
-ghost use mathlib.Core.Bool.{true, false};
-ghost use Prim.Native.Nat.{_*_, _≤_, _<_};
-ghost use lib.ListN.{length};
-ghost use Rattle.pairs.specs.Keys.{keyAt, most, word};
+ghost use mathlib.Core.Bool.{true, cond};
+ghost use Prim.Native.Nat.{_+_, _/_, _≤_, _<_};
+ghost use lib.ListN.{length, getD, set};
+ghost use Rattle.pairs.specs.Keys.{widthOf, keyAt, least, most, word};
 ghost use Rattle.pairs.specs.Walks.{Keyed, Zeros};
 ghost use Rattle.pairs.specs.Indices.{Rising, indexAt};
-ghost use Rattle.pairs.specs.Sifting.{placeOf, Sifts};
+ghost use Rattle.pairs.specs.Sifting.{placeOf, Places, Held, Another, TriedAt, TriedSecond, kept, more, Sifts};
 
 // Two odd factors, of a key's lower half and of its upper half. With these, records in which every account holds every mark leave few.
 const LOWER: u64 = 2_654_435_761;
@@ -24,6 +25,9 @@ const UPPER: u64 = 1_973_900_851;
 // An odd factor, by which they change where a list is sifted anew.
 const ANEW: u64 = 2_246_822_519;
 
+// So often at most.
+const TURNS: usize = 16;
+
 // The first record that repeats another, or the number of all; how many are left, and whether the list has them all.
 pub struct Sifted {
     pub found: usize,
@@ -31,31 +35,100 @@ pub struct Sifted {
     pub whole: bool,
 }
 
-// The place of a key among so many: of its lower half times a number and its upper half times another, the highest of 32 bits choose it.
-fn place_of(x: u64, lower: u64, upper: u64, places: usize) -> usize
-    requires { ⌜ (0 < places) × (places ≤ 4 * most) × (lower < word) × (upper < word) ⌝ }
-    ensures { λ r. ⌜ (r ≡ placeOf lower upper places x) × (r < places) ⌝ }
+// The place of a key: of its lower half times a number and its upper half times another, added, the highest of 32 bits.
+fn place_of(x: u64, lower: u64, upper: u64, shift: u32) -> usize
+    requires { ⌜ (lower < word) × (upper < word) × (shift < 64) ⌝ }
+    ensures { λ r. ⌜ r ≡ placeOf lower upper shift x ⌝ }
 {
     let low = x % WORD * lower % WORD;
     let high = x / WORD * upper % WORD;
-    ((low + high) % WORD * (places as u64) / WORD) as usize
+    ((low + high) % WORD >> shift) as usize
 }
 
-// An entry of a list, or without one the index itself.
-fn index_at(list: &[u16], listed: bool, t: usize) -> usize
-    requires { ⌜ (listed ≡ true → t < length (now list)) × (t ≤ most) ⌝ }
-    ensures { λ r. ⌜ r ≡ indexAt listed (now (list .entry)) t ⌝ }
+// What comes of a record's try at a place: it stays there, or repeats the record that is there, or that one has another key.
+pub enum Placed {
+    Stays,
+    Repeats,
+    Differs,
+}
+
+// Lets record i, whose key is x, try its first place.
+fn try_at(
+    records: &[u8],
+    size: usize,
+    key: Key,
+    place: &mut [u16],
+    spot: usize,
+    i: usize,
+    x: u64,
+) -> Placed
+    requires { ⌜ (widthOf key ≤ size) × (Held (length (now records) / size) (now place)) × (spot < length (now place)) × (i < most) ⌝ }
+    ensures { λ r. ⌜ TriedAt (keyAt key size (now (records .entry))) (now (place .entry)) spot i x (now (place .exit)) r ⌝ }
 {
-    if listed { wide(list[t]) } else { t }
+    let held = wide(place[spot]);
+    if held == 0 {
+        place[spot] = (i + 1) as u16;
+        return Placed::Stays;
+    }
+    if key_at(records, size, key, held - 1) == x {
+        return Placed::Repeats;
+    }
+    Placed::Differs
 }
 
-// Whether to give up after t of m records: the list is full, or many are left and fewer stay than are still to come, so that to put all
-// records in order takes less time. No answer depends on it.
-fn gives_up(left: usize, t: usize, m: usize, room: usize) -> bool
+// What a place has, or where it is empty what another has.
+fn held_at(held: usize, other: usize) -> usize
+    ensures { λ r. ⌜ r ≡ kept held other ⌝ }
+{
+    if held == 0 { other } else { held }
+}
+
+// Whether the record at a second place has key x, where the one at the first has another. An empty place is answered by the first: so
+// there is one comparison, whatever the place has, and no branch that a processor would have to guess.
+fn repeats_at(
+    records: &[u8],
+    size: usize,
+    key: Key,
+    place: &[u16],
+    first: usize,
+    second: usize,
+    x: u64,
+) -> bool
+    requires { ⌜ (widthOf key ≤ size) × (Held (length (now records) / size) (now place)) × (first < length (now place))
+        × (second < length (now place)) × (Another (keyAt key size (now records)) (now place) first x) ⌝ }
+    ensures { λ r. ⌜ TriedSecond (keyAt key size (now (records .entry))) (now (place .entry)) second x r ⌝ }
+{
+    let held = held_at(wide(place[second]), wide(place[first]));
+    key_at(records, size, key, held - 1) == x
+}
+
+// One more where a place is taken.
+fn one_more(left: usize, held: usize) -> usize
+    requires { ⌜ left ≤ most ⌝ }
+    ensures { λ r. ⌜ r ≡ more left held ⌝ }
+{
+    if held == 0 { left } else { left + 1 }
+}
+
+// Record i stays at an empty place, or comes to the end of those that are left. Both are written either way: no branch here too.
+fn stay_or_list(place: &mut [u16], spot: usize, i: usize, list: &mut [u16], left: usize) -> usize
+    requires { ⌜ (spot < length (now place)) × (left < length (now list)) × (left < most) × (i < most) × (getD (now place) spot 0 ≤ most) ⌝ }
+    ensures { λ r. ⌜ (now (place .exit) ≡ set (now (place .entry)) spot (kept (getD (now (place .entry)) spot 0) (i + 1)))
+        × (now (list .exit) ≡ set (now (list .entry)) left i) × (r ≡ more left (getD (now (place .entry)) spot 0)) ⌝ }
+{
+    let held = wide(place[spot]);
+    place[spot] = held_at(held, i + 1) as u16;
+    list[left] = i as u16;
+    one_more(left, held)
+}
+
+// Whether to give up after t of m records: many are left, and fewer stay than half of those that are still to come, so that it takes less
+// time to sift all by other places. No answer depends on it.
+fn gives_up(left: usize, t: usize, m: usize) -> bool
     requires { ⌜ (left ≤ t) × (t ≤ m) × (m ≤ most) ⌝ }
-    ensures { λ r. ⌜ (r ≡ false → left < room) ⌝ }
+    ensures { λ _. ⊤ₛ }
 {
-    (room <= left) | ((256 < left) & (t - left < m - t))
+    (64 < left) & (2 * (t - left) < m - t)
 }
 
 // Sifts m records of n, by places that are empty: those in a list, or the first without one. The list then has those that are left, unless
@@ -71,10 +144,11 @@ fn sift(
     lower: u64,
     upper: u64,
     place: &mut [u16],
+    shift: u32,
 ) -> Sifted
-    requires { ⌜ (Keyed key size (now records) n) × (Rising n m (indexAt listed (now list))) × (listed ≡ true → m ≤ length (now list))
-        × (m ≤ most) × (0 < length (now place)) × (length (now place) ≤ 4 * most) × Zeros (now place) × (lower < word) × (upper < word) ⌝ }
-    ensures { λ r. ⌜ (r .left ≤ length (now (list .exit))) × (r .whole ≡ true → Sifts (keyAt key size (now (records .entry))) n m
+    requires { ⌜ (Keyed key size (now records) n) × (Rising n m (indexAt listed (now list))) × (m ≤ length (now list)) × (m ≤ n)
+        × (Places shift (now place)) × Zeros (now place) × (lower < word) × (upper < word) ⌝ }
+    ensures { λ r. ⌜ (r .whole ≡ true → Sifts (keyAt key size (now (records .entry))) n m
         (indexAt listed (now (list .entry))) (now (list .exit)) (r .found) (r .left)) ⌝ }
 {
     let mut left = 0;
@@ -82,42 +156,37 @@ fn sift(
     while t < m {
         let i = index_at(list, listed, t);
         let x = key_at(records, size, key, i);
-        let first = place_of(x, lower, upper, place.len());
-        let held = wide(place[first]);
         t += 1;
-        if held == 0 {
-            place[first] = (i + 1) as u16;
-            continue;
+        let first = place_of(x, lower, upper, shift);
+        match try_at(records, size, key, place, first, i, x) {
+            Placed::Stays => {
+                continue;
+            }
+            Placed::Repeats => {
+                return Sifted {
+                    found: i,
+                    left,
+                    whole: true,
+                };
+            }
+            Placed::Differs => {}
         }
-        if key_at(records, size, key, held - 1) == x {
+        let second = place_of(x, upper, lower, shift);
+        if repeats_at(records, size, key, place, first, second, x) {
             return Sifted {
                 found: i,
                 left,
                 whole: true,
             };
         }
-        let second = place_of(x, upper, lower, place.len());
-        let holds = wide(place[second]);
-        if holds == 0 {
-            place[second] = (i + 1) as u16;
-            continue;
-        }
-        if key_at(records, size, key, holds - 1) == x {
-            return Sifted {
-                found: i,
-                left,
-                whole: true,
-            };
-        }
-        if gives_up(left, t, m, list.len()) {
+        if gives_up(left, t, m) {
             return Sifted {
                 found: n,
                 left,
                 whole: false,
             };
         }
-        list[left] = i as u16;
-        left += 1;
+        left = stay_or_list(place, second, i, list, left);
     }
     Sifted {
         found: n,
@@ -134,10 +203,10 @@ fn sift_once(
     n: usize,
     list: &mut [u16],
     place: &mut [u16],
+    shift: u32,
 ) -> Sifted
-    requires { ⌜ (Keyed key size (now records) n) × (0 < length (now place)) × (length (now place) ≤ 4 * most) × Zeros (now place) ⌝ }
-    ensures { λ r. ⌜ (r .left ≤ length (now (list .exit))) × (r .whole ≡ true → Sifts (keyAt key size (now (records .entry))) n n (λ u. u)
-        (now (list .exit)) (r .found) (r .left)) ⌝ }
+    requires { ⌜ (Keyed key size (now records) n) × (n ≤ length (now list)) × (Places shift (now place)) × Zeros (now place) ⌝ }
+    ensures { λ r. ⌜ (r .whole ≡ true → Sifts (keyAt key size (now (records .entry))) n n (λ u. u) (now (list .exit)) (r .found) (r .left)) ⌝ }
 {
     match key {
         Key::Four => sift(
@@ -151,6 +220,7 @@ fn sift_once(
             LOWER,
             UPPER,
             place,
+            shift,
         ),
         Key::Eight => sift(
             records,
@@ -163,18 +233,78 @@ fn sift_once(
             LOWER,
             UPPER,
             place,
+            shift,
         ),
     }
 }
 
-// Whether some are left of n, and few. No answer depends on it.
-fn are_few(left: usize, n: usize) -> bool
-    ensures { λ _. ⊤ₛ }
+// Sifts m records of n by other factors: few of them by a sixteenth of the places.
+fn sift_anew(
+    records: &[u8],
+    size: usize,
+    key: Key,
+    n: usize,
+    list: &mut [u16],
+    listed: bool,
+    m: usize,
+    lower: u64,
+    upper: u64,
+    place: &mut [u16],
+    shift: u32,
+    other: &mut [u16],
+) -> Sifted
+    requires { ⌜ (Keyed key size (now records) n) × (Rising n m (indexAt listed (now list))) × (m ≤ length (now list)) × (m ≤ n)
+        × (Places shift (now place)) × Places (shift + 4) (now other) × (lower < word) × (upper < word) ⌝ }
+    ensures { λ r. ⌜ (r .whole ≡ true → Sifts (keyAt key size (now (records .entry))) n m
+        (indexAt listed (now (list .entry))) (now (list .exit)) (r .found) (r .left)) ⌝ }
 {
-    (0 < left) & (left <= n / 4)
+    if m <= n / 16 {
+        clear(other);
+        return sift(
+            records,
+            size,
+            key,
+            n,
+            list,
+            listed,
+            m,
+            lower,
+            upper,
+            other,
+            shift + 4,
+        );
+    }
+    clear(place);
+    sift(
+        records,
+        size,
+        key,
+        n,
+        list,
+        listed,
+        m,
+        lower,
+        upper,
+        place,
+        shift,
+    )
 }
 
-// Sifts n records, and where few are left these anew, at most twice.
+// What is left to sift: the list, or all where it does not have them.
+fn to_sift(whole: bool, left: usize, n: usize) -> usize
+    ensures { λ r. ⌜ r ≡ cond whole left n ⌝ }
+{
+    if whole { left } else { n }
+}
+
+// What is found so far, with what is found anew: nothing was where all are sifted again.
+fn found_with(whole: bool, anew: usize, found: usize) -> usize
+    ensures { λ r. ⌜ r ≡ cond whole (least anew found) anew ⌝ }
+{
+    if whole { smaller(anew, found) } else { anew }
+}
+
+// Sifts n records, and then those that are left, or all where it gave up, by other factors in each turn.
 pub(crate) fn sift_all(
     records: &[u8],
     size: usize,
@@ -182,28 +312,41 @@ pub(crate) fn sift_all(
     n: usize,
     list: &mut [u16],
     place: &mut [u16],
+    shift: u32,
     other: &mut [u16],
 ) -> Sifted
-    requires { ⌜ (Keyed key size (now records) n) × (0 < length (now place)) × (length (now place) ≤ 4 * most) × (Zeros (now place))
-        × (0 < length (now other)) × (length (now other) ≤ 4 * most) ⌝ }
-    ensures { λ r. ⌜ (r .left ≤ length (now (list .exit))) × (r .whole ≡ true → Sifts (keyAt key size (now (records .entry))) n n (λ u. u)
-        (now (list .exit)) (r .found) (r .left)) ⌝ }
+    requires { ⌜ (Keyed key size (now records) n) × (n ≤ length (now list)) × (Places shift (now place)) × (Zeros (now place))
+        × Places (shift + 4) (now other) ⌝ }
+    ensures { λ r. ⌜ (r .whole ≡ true → Sifts (keyAt key size (now (records .entry))) n n (λ u. u) (now (list .exit)) (r .found) (r .left)) ⌝ }
 {
-    let once = sift_once(records, size, key, n, list, place);
+    let once = sift_once(records, size, key, n, list, place, shift);
     let mut found = once.found;
     let mut left = once.left;
     let mut whole = once.whole;
     let mut lower = LOWER;
     let mut upper = UPPER;
     let mut turns = 0usize;
-    while (turns < 2) & whole & are_few(left, n) {
-        clear(other);
+    while (turns < TURNS) & (!whole | (0 < left)) {
         lower = lower * ANEW % WORD;
         upper = upper * LOWER % WORD;
-        let again = sift(records, size, key, n, list, true, left, lower, upper, other);
-        found = smaller(again.found, found);
-        left = again.left;
-        whole = again.whole;
+        let m = to_sift(whole, left, n);
+        let anew = sift_anew(
+            records,
+            size,
+            key,
+            n,
+            list,
+            whole,
+            m,
+            lower,
+            upper,
+            place,
+            shift,
+            other,
+        );
+        found = found_with(whole, anew.found, found);
+        left = anew.left;
+        whole = anew.whole;
         turns += 1;
     }
     Sifted { found, left, whole }

@@ -9,11 +9,10 @@ use Rattle.pairs.proofs.first.first_in.Tie as tie
 
 returns : tie.Need-returns
 returns c =
-    let c8 = c .before .before .before .before .before .before .before .before in
-    let s = c8 .before .before .sift-all in
+    let s = c .before .before .before .before .before .before .before .before .before .before .sift-all in
     let none = eqb-true (s .result .left) 0 (and-right (s .result .whole) (eqb (s .result .left) 0) (c .before .if1 .taken)) in
     let whole = and-left (s .result .whole) (eqb (s .result .left) 0) (c .before .if1 .taken) in
-    rw (c .smaller .ensures) (s .ensures .1 whole .answers _ (rw none first-of-none))
+    rw (c .smaller .ensures) (s .ensures whole .answers _ (rw none first-of-none))
 
 pub first-in-spec : {M : Type 1} → statement M
 first-in-spec =

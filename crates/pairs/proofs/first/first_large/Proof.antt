@@ -1,12 +1,19 @@
 -- Eight places for each record start empty.
-use native.Mathlib.Omega.{arith}
+use lib.Dec.{lit≤}
 use Rattle.pairs.proofs.Trees.{zeros}
+use Rattle.pairs.proofs.Sifted.{places-in}
 use borrow.Author.Needs.{needs}
 use Rattle.pairs.proofs.first.first_large.Statement.{statement}
 use Rattle.pairs.proofs.first.first_large.Tie as tie
 
 first-in-requires : tie.Need-first-in-requires
-first-in-requires c κs = let p = c .before .before .before .before .pre in (p .0, omega arith, omega arith, zeros 8192, omega arith, omega arith)
+first-in-requires c κs = (
+  c .before .before .before .before .pre .0,
+  c .before .before .before .before .pre .1,
+  places-in 19 8192 (lit≤ tt) (lit≤ tt),
+  zeros 8192,
+  places-in 23 512 (lit≤ tt) (lit≤ tt),
+)
 
 pub first-large-spec : {M : Type 1} → statement M
 first-large-spec =

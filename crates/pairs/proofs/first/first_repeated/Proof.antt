@@ -9,74 +9,30 @@ use borrow.Author.Needs.{needs}
 use Rattle.pairs.proofs.first.first_repeated.Statement.{statement}
 use Rattle.pairs.proofs.first.first_repeated.Tie as tie
 
+first-sifted-requires : tie.Need-first-sifted-requires
+first-sifted-requires c κs = looked-keyed _ _ _ _ (omega (arith, c .before .looked-at .ensures))
+
 first-by-pairs-requires : tie.Need-first-by-pairs-requires
 first-by-pairs-requires c κs = looked-keyed _ _ _ _ (omega (arith, c .before .looked-at .ensures))
 
 returns : tie.Need-returns
-returns c = by-one (first _) (c .first-by-pairs .ensures) (c .before .before .looked-at .ensures)
-
-tried-most-requires : tie.Need-tried-most-requires
-tried-most-requires c κs = looked-keyed _ _ _ _ (omega (arith, c .before .before .looked-at .ensures))
+returns c =
+    by-one (first _)
+    (c .found-at .ensures ∙ found-first (rw (c .before .before .i .given .1) at (c .before .before .before .before .first-sifted .ensures)))
+    (c .before .before .before .before .before .before .looked-at .ensures)
 
 returns-2 : tie.Need-returns-2
-returns-2 c =
-    by-one (first _)
-    (c .found-at .ensures ∙ found-first (rw (c .before .before .i .given .1) at (c .before .before .before .before .tried-most .ensures)))
-    (c .before .before .before .before .before .before .before .looked-at .ensures)
-
-first-of-all-requires : tie.Need-first-of-all-requires
-first-of-all-requires c κs = looked-keyed _ _ _ _ (omega (arith, c .before .before .before .before .before .looked-at .ensures))
-
-returns-3 : tie.Need-returns-3
-returns-3 c = by-one (first _) (c .first-of-all .ensures) (c .before .before .before .before .before .before .looked-at .ensures)
-
-tried-small-requires : tie.Need-tried-small-requires
-tried-small-requires c κs = (looked-keyed _ _ _ _ (omega (arith, c .before .before .looked-at .ensures)), omega (arith, c .if2 .left))
-
-returns-4 : tie.Need-returns-4
-returns-4 c =
-    by-one (first _)
-    (c .found-at2 .ensures ∙ found-first (rw (c .before .before .i2 .given .1) at (c .before .before .before .before .tried-small .ensures)))
-    (c .before .before .before .before .before .before .before .looked-at .ensures)
-
-tried-most-requires-2 : tie.Need-tried-most-requires-2
-tried-most-requires-2 c κs = looked-keyed _ _ _ _ (omega (arith, c .before .before .before .before .before .looked-at .ensures))
-
-returns-5 : tie.Need-returns-5
-returns-5 c =
-    by-one (first _)
-    (c .found-at3 .ensures ∙ found-first (rw (c .before .before .i3 .given .1) at (c .before .before .before .before .tried-most2 .ensures)))
-    (c .before .before .before .before .before .before .before .before .before .before .looked-at .ensures)
-
-first-of-all-requires-2 : tie.Need-first-of-all-requires-2
-first-of-all-requires-2 c κs = looked-keyed _ _ _ _ (omega (arith, c .before .before .before .before .before .before .before .before .looked-at .ensures))
-
-returns-6 : tie.Need-returns-6
-returns-6 c = by-one (first _) (c .first-of-all2 .ensures) (c .before .before .before .before .before .before .before .before .before .looked-at .ensures)
+returns-2 c = by-one (first _) (c .first-by-pairs .ensures) (c .before .before .looked-at .ensures)
 
 pub first-repeated-spec : {M : Type 1} → statement M
 first-repeated-spec =
     tie.close
     (tie.spec
     (λ c κs. search needs)
-    first-by-pairs-requires
+    first-sifted-requires
+    (λ c. search needs)
+    (λ c κs. search needs)
     returns
-    tried-most-requires
     (λ c. search needs)
-    (λ c κs. search needs)
-    returns-2
-    (λ c. search needs)
-    first-of-all-requires
-    returns-3
-    tried-small-requires
-    (λ c. search needs)
-    (λ c κs. search needs)
-    returns-4
-    (λ c. search needs)
-    tried-most-requires-2
-    (λ c. search needs)
-    (λ c κs. search needs)
-    returns-5
-    (λ c. search needs)
-    first-of-all-requires-2
-    returns-6)
+    first-by-pairs-requires
+    returns-2)

@@ -1,3 +1,4 @@
+-- An index below n is one of a record.
 use borrow.Author.Tests.{lt-ltb, le-ltb}
 use Rattle.pairs.proofs.first.found_at.Statement.{statement}
 use Rattle.pairs.proofs.first.found_at.Tie as tie

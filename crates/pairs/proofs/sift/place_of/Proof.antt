@@ -1,7 +1,7 @@
 -- Numbers below 2^32 have a product that fits.
-use Prim.Native.Nat.{_+_, _*_, _/_, _%_, _≤_, _<_}
+use Prim.Native.Nat.{_/_, _%_, _≤_}
 use mathlib.Core.Path.{refl}
-use native.Mathlib.Nat.{mul-le-mul, mul-lt-mul-of-pos-right}
+use native.Mathlib.Nat.{mul-le-mul}
 use native.Mathlib.Omega.{arith}
 use Rattle.pairs.specs.Keys.{word}
 use Rattle.pairs.specs.Sifting.{placeOf}
@@ -12,25 +12,18 @@ use Rattle.pairs.proofs.sift.place_of.Tie as tie
 mul-low : tie.Need-mul-low
 mul-low c =
     let h : c .args .x % word ≤ 4294967295 = omega arith in
-    let k : c .args .lower ≤ 4294967295 = omega (arith, c .pre .2) in
+    let k : c .args .lower ≤ 4294967295 = omega (arith, c .pre .0) in
     omega (arith, mul-le-mul h k)
 
 mul-high : tie.Need-mul-high
 mul-high c =
     let h : c .args .x / word ≤ 4294967295 = omega (arith, c .fits) in
-    let k : c .args .upper ≤ 4294967295 = omega (arith, c .pre .3) in
+    let k : c .args .upper ≤ 4294967295 = omega (arith, c .pre .1) in
     omega (arith, mul-le-mul h k)
-
-mul-result : tie.Need-mul-result
-mul-result c =
-    let h : (c .args .x % word * c .args .lower % word + c .args .x / word * c .args .upper % word) % word ≤ 4294967295 = omega arith in
-    omega (arith, mul-le-mul h (c .pre .1))
 
 returns : tie.Need-returns
 unfolding placeOf
-returns c =
-    let h : (c .args .x % word * c .args .lower % word + c .args .x / word * c .args .upper % word) % word < word = omega arith in
-    (refl, omega (arith, mul-lt-mul-of-pos-right h (c .pre .0)))
+returns c = refl
 
 pub place-of-spec : {M : Type 1} → statement M
 place-of-spec =
@@ -39,5 +32,5 @@ place-of-spec =
     mul-low
     mul-high
     (λ c. search needs)
-    mul-result
+    (λ c. search needs)
     returns)

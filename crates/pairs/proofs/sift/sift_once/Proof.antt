@@ -6,30 +6,14 @@ use Rattle.pairs.proofs.sift.sift_once.Statement.{statement}
 use Rattle.pairs.proofs.sift.sift_once.Tie as tie
 
 sift-requires : tie.Need-sift-requires
-sift-requires c κs = (
-  rw (c .before .before .enum-told .given .1) at (c .before .before .before .before .before .before .before .pre .0),
-  record { below = λ u h. h; rising = λ u v h k. h },
-  λ q. absurd (false≢true q),
-  c .before .before .before .before .before .before .before .pre .0 .few,
-  c .before .before .before .before .before .before .before .pre .1,
-  c .before .before .before .before .before .before .before .pre .2,
-  c .before .before .before .before .before .before .before .pre .3,
-  omega arith,
-  omega arith,
-)
+sift-requires c κs =
+    let p = c .before .before .before .before .before .before .before .pre in
+    (rw (c .before .before .enum-told .given .1) at (p .0), record { below = λ u h. h; rising = λ u v h k. h }, p .1, omega arith, p .2, p .3, omega arith, omega arith)
 
 sift-requires-2 : tie.Need-sift-requires-2
-sift-requires-2 c κs = (
-  rw (c .before .before .enum-told2 .given .1) at (c .before .before .before .before .before .before .before .pre .0),
-  record { below = λ u h. h; rising = λ u v h k. h },
-  λ q. absurd (false≢true q),
-  c .before .before .before .before .before .before .before .pre .0 .few,
-  c .before .before .before .before .before .before .before .pre .1,
-  c .before .before .before .before .before .before .before .pre .2,
-  c .before .before .before .before .before .before .before .pre .3,
-  omega arith,
-  omega arith,
-)
+sift-requires-2 c κs =
+    let p = c .before .before .before .before .before .before .before .pre in
+    (rw (c .before .before .enum-told2 .given .1) at (p .0), record { below = λ u h. h; rising = λ u v h k. h }, p .1, omega arith, p .2, p .3, omega arith, omega arith)
 
 returns : tie.Need-returns
 returns c = rw (c .before .before .before .before .before .before .before .enum-told .given .1) (c .before .before .before .before .sift .ensures)

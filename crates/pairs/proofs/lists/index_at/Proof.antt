@@ -1,6 +1,7 @@
+-- With a list it is the entry that is read, without one the index.
 use borrow.Author.Needs.{needs}
-use Rattle.pairs.proofs.sift.index_at.Statement.{statement}
-use Rattle.pairs.proofs.sift.index_at.Tie as tie
+use Rattle.pairs.proofs.lists.index_at.Statement.{statement}
+use Rattle.pairs.proofs.lists.index_at.Tie as tie
 
 shared-slice-read-wide : tie.Need-shared-slice-read-wide
 shared-slice-read-wide c = c .before .before .before .pre .0 (c .before .if1 .taken)

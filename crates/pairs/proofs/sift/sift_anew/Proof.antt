@@ -1,0 +1,31 @@
+-- Places that are cleared are empty.
+use Rattle.pairs.proofs.Sifted.{places-as}
+use borrow.Author.Needs.{needs}
+use Rattle.pairs.proofs.sift.sift_anew.Statement.{statement}
+use Rattle.pairs.proofs.sift.sift_anew.Tie as tie
+
+sift-requires : tie.Need-sift-requires
+sift-requires c κs =
+    let p = c .before .before .before .before .before .before .before .before .before .before .before .pre in
+    (p .0, p .1, p .2, p .3, places-as (c .before .before .before .other .given) (p .5), c .before .before .before .before .clear .ensures, p .6, p .7)
+
+sift-requires-2 : tie.Need-sift-requires-2
+sift-requires-2 c κs =
+    let p = c .before .before .before .before .before .before .before .before .before .before .before .pre in
+    (p .0, p .1, p .2, p .3, places-as (c .before .before .before .place .given) (p .4), c .before .before .before .before .clear2 .ensures, p .6, p .7)
+
+pub sift-anew-spec : {M : Type 1} → statement M
+sift-anew-spec =
+    tie.close
+    (tie.spec
+    (λ c κs. search needs)
+    (λ c. search needs)
+    sift-requires
+    (λ c. search needs)
+    (λ c. search needs)
+    (λ c. search needs)
+    (λ c κs. search needs)
+    sift-requires-2
+    (λ c. search needs)
+    (λ c. search needs)
+    (λ c. search needs))
