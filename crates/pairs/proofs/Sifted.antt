@@ -14,10 +14,11 @@ use lib.ListN.{length, getD, set, replicate, length-replicate}
 use lib.Seq.{getD-set-same, getD-set-other, set-getD}
 use lib.Pow.{pow-pos}
 use borrow.Author.Tests.{leb-true, leb-false, ne-eqb}
+use Rattle.numbers.specs.Folds.{Filled}
 use Rattle.pairs.specs.Keys.{word, least}
 use Rattle.pairs.specs.Walks.{Keyed}
 use Rattle.pairs.specs.Indices.{at, Hit, Repeats, FirstOf, Rising, indexAt}
-use Rattle.pairs.specs.Sifting.{placeOf, Places, Held, Holds, Another, Comes, kept, more, Sifts}
+use Rattle.pairs.specs.Sifting.{placeOf, Places, Held, Holds, Another, Comes, kept, more, First, Second, Sifts}
 use Rattle.pairs.specs.declared.keys.Key.{Key}
 use Rattle.pairs.proofs.Least.{least-first, least-second, least-below-first, least-below-second}
 use Rattle.pairs.proofs.Trees.{after-set}
@@ -342,29 +343,23 @@ module _ {key : ℕ → ℕ} {spot : Bool → ℕ → ℕ} {before : ℕ → ℕ
 -- ---- one record more
 
 module _ {key : ℕ → ℕ} {spot : Bool → ℕ → ℕ} {before : ℕ → ℕ} {listed : Bool} {places list : List ℕ} {t left : ℕ}
-    (s : Sifting key spot before listed places list t left) {i x : ℕ} (is : i ≡ before t) (key-is : x ≡ key i) where
-  -- it stays at its first place
-  pub stays-first : {after : List ℕ} → Comes i places (spot false x) after → spot false x < length places
-      → Sifting key spot before listed after list (t + 1) left
-  stays-first w l = rw (w .is) (stay s false is (ap (spot false) key-is) (w .empty) l (λ q. absurd (false≢true q)))
-
-  -- another key is at the first: it stays at its second place, or is left
-  pub stays-second : Another key places (spot false x) x → ((getD places (spot true x) 0 ≡ 0 → ⊥) → Another key places (spot true x) x)
-      → spot true x < length places → left < length list → ((u : ℕ) → u < t → before u < before t)
-      → Sifting key spot before listed (set places (spot true x) (kept (getD places (spot true x) 0) (i + 1))) (set list left i) (t + 1)
-      (more left (getD places (spot true x) 0))
-  stays-second first second l room up = go (getD places (spot true x) 0) refl
+    (s : Sifting key spot before listed places list t left) {i : ℕ} (is : i ≡ before t) {places′ list′ : List ℕ} {left′ : ℕ} where
+  -- it stays at its first place, or at its second, or is left
+  pub tried : ((b : Bool) → spot b (key i) < length places) → left < length list → ((u : ℕ) → u < t → before u < before t)
+      → First (spot false (key i)) places list left i places′ list′ left′
+      ⊎ Second key (spot false (key i)) (spot true (key i)) places list left i places′ list′ left′
+      → Sifting key spot before listed places′ list′ (t + 1) left′
+  tried l room up (inl w) = rw (w .comes .is, w .entry, w .count) (stay s false is refl (w .comes .empty) (l false) (λ q. absurd (false≢true q)))
+  tried l room up (inr w) = rw (w .puts .place, w .puts .entry, w .puts .count) (go (getD places (spot true (key i)) 0) refl)
     where
-      there : (b : Bool) → Another key places (spot b x) x → Another key places (spot b (key i)) (key i)
-      there b w = rw (sym key-is) w
-
-      go : (held : ℕ) → getD places (spot true x) 0 ≡ held
-          → Sifting key spot before listed (set places (spot true x) (kept held (i + 1))) (set list left i) (t + 1) (more left held)
-      go zero p = scribbled (stay s true is (ap (spot true) key-is) p l (λ q. there false first)) i (omega (arith, s .fewer))
+      go : (held : ℕ) → getD places (spot true (key i)) 0 ≡ held
+          → Sifting key spot before listed (set places (spot true (key i)) (kept held (i + 1))) (set list left i) (t + 1) (more left held)
+      go zero p = scribbled (stay s true is refl p (l true) (λ q. w .first)) i (omega (arith, s .fewer))
       go (suc h) p =
           let taken : eqb (suc h) 0 ≡ false = ne-eqb (suc h) 0 (λ q. omega (arith, q)) in
-          let same : set places (spot true x) (suc h) ≡ places = ap (λ k. set places (spot true x) k) (sym p) ∙ set-getD places (spot true x) 0 in
-          rw (taken, same) (leave s is (there false first) (there true (second (λ q. omega (arith, p, q)))) room up)
+          let same : set places (spot true (key i)) (suc h) ≡ places =
+          ap (λ k. set places (spot true (key i)) k) (sym p) ∙ set-getD places (spot true (key i)) 0 in
+          rw (taken, same) (leave s is (w .first) (w .second (λ q. omega (arith, p, q))) room up)
 
 -- ---- sifted anew
 
@@ -382,21 +377,27 @@ pub sifts-sifts : {key before : ℕ → ℕ} {n m k left a b : ℕ} {mid after :
 sifts-sifts {left = left} {a = a} {b = b} s r =
     record { fewer = omega (arith, s .fewer, r .fewer); listed = r .listed; answers = λ o w. rw (sym (least-least o b a)) (s .answers (least o b) (r .answers o w)) }
 
--- a turn: of those that are left, or of all where nothing is known of the list
-pub sifts-anew : {key : ℕ → ℕ} {n left k found anew : ℕ} {list after : List ℕ} (whole : Bool)
-    → (whole ≡ true → Sifts key n n (λ u. u) list found left)
-    → Sifts key n (cond whole left n) (indexAt whole list) after anew k
-    → Sifts key n n (λ u. u) after (cond whole (least anew found) anew) k
-sifts-anew true s r = sifts-sifts (s refl) r
-sifts-anew false s r = r
+-- all records are listed: none is sifted yet
+pub sifts-none : {key : ℕ → ℕ} {n : ℕ} {list : List ℕ} → Filled 0 (λ u. u) n list → Sifts key n n (λ u. u) list n n
+sifts-none {key} {n} {list} w =
+    record {
+      fewer = omega arith;
+      listed = record {
+        below = λ u h. rw (w .entry u h) h;
+        rising = λ u v h k. rw (w .entry u (omega arith), w .entry v k) h;
+      };
+      answers = λ o a. rw (sym (least-first o n (a .within)))
+          (record {
+            within = a .within;
+            repeats = λ h.
+                let r = a .repeats h in
+                record { listed = as-listed (r .listed); other = r .other; listed-too = as-listed (r .listed-too); lower = r .lower; same = r .same };
+            lowest = λ j k p q l e. a .lowest j k (in-list p) (in-list q) l e;
+          });
+    }
+  where
+    as-listed : {i : ℕ} → Hit (at list) n i → Hit (λ (u : ℕ). u) n i
+    as-listed a = record { place = a .place; below = a .below; is = sym (w .entry (a .place) (a .below)) ∙ a .is }
 
--- and the records of a turn
-pub rising-anew : {key : ℕ → ℕ} {n left found : ℕ} {list : List ℕ} (whole : Bool)
-    → (whole ≡ true → Sifts key n n (λ u. u) list found left) → Rising n (cond whole left n) (indexAt whole list)
-rising-anew true s = s refl .listed
-rising-anew false s = record { below = λ u h. h; rising = λ u v h k. h }
-
-pub few-anew : {key : ℕ → ℕ} {n left found : ℕ} {list : List ℕ} (whole : Bool)
-    → (whole ≡ true → Sifts key n n (λ u. u) list found left) → cond whole left n ≤ n
-few-anew true s = s refl .fewer
-few-anew false s = omega arith
+    in-list : {i : ℕ} → Hit (λ (u : ℕ). u) n i → Hit (at list) n i
+    in-list a = record { place = a .place; below = a .below; is = w .entry (a .place) (a .below) ∙ a .is }

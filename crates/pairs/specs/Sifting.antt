@@ -3,6 +3,7 @@ use Prim.Native.Nat.{ℕ, suc, _+_, _*_, _/_, _%_, _≤_, _<_, _^_}
 use mathlib.Core.Path.{_≡_}
 use mathlib.Core.Bool.{Bool, true, false, cond}
 use mathlib.Core.List.{List}
+use mathlib.Core.Logic.{_⊎_}
 use lib.ListN.{length, getD, set}
 use lib.Dec.{eqb, ltb}
 use Rattle.numbers.specs.declared.Found.{Found}
@@ -11,6 +12,8 @@ use Rattle.pairs.specs.Keys.{word, least}
 use Rattle.pairs.specs.Indices.{at, FirstOf, Rising}
 use Rattle.pairs.specs.declared.sift.Placed.{Placed}
 use Rattle.pairs.specs.declared.sift.Placed.the-variants.{Stays, Repeats, Differs}
+use Rattle.pairs.specs.declared.sift.Step.{Step}
+use Rattle.pairs.specs.declared.sift.Step.the-variants.{Repeated, GivenUp, Left}
 use Rattle.pairs.specs.declared.first.Tried.{Tried}
 use Rattle.pairs.specs.declared.first.Tried.the-variants.{Answered, Unanswered}
 
@@ -63,12 +66,41 @@ kept held i = cond (eqb held 0) i held
 abbrev pub more : ℕ → ℕ → ℕ
 more left held = cond (eqb held 0) left (left + 1)
 
+-- record i is put at a place that is empty, or else at the end of those that are left
+pub record Puts (places : List ℕ) (b i : ℕ) (list : List ℕ) (left : ℕ) (places′ list′ : List ℕ) (left′ : ℕ) : Type 0 where
+  pub place : places′ ≡ set places b (kept (getD places b 0) (i + 1))
+  pub entry : list′ ≡ set list left i
+  pub count : left′ ≡ more left (getD places b 0)
+
+-- another key is at the first place: it is put at the second, where another key is too unless it is empty
+pub record Second (key : ℕ → ℕ) (a b : ℕ) (places list : List ℕ) (left i : ℕ) (places′ list′ : List ℕ) (left′ : ℕ) : Type 0 where
+  pub first : Another key places a (key i)
+  pub second : (getD places b 0 ≡ 0 → ⊥) → Another key places b (key i)
+  pub puts : Puts places b i list left places′ list′ left′
+
+-- it stays at the first place
+pub record First (a : ℕ) (places list : List ℕ) (left i : ℕ) (places′ list′ : List ℕ) (left′ : ℕ) : Type 0 where
+  pub comes : Comes i places a places′
+  pub entry : list′ ≡ list
+  pub count : left′ ≡ left
+
+-- what comes of record i, of which a key's places are these
+abbrev pub TriedBoth : (ℕ → ℕ) → (ℕ → ℕ) → (ℕ → ℕ) → List ℕ → List ℕ → ℕ → ℕ → List ℕ → List ℕ → Step → Type 0
+TriedBoth key f g places list left i places′ list′ Repeated = (places′ ≡ places) × (list′ ≡ list) × Holds key places (key i)
+TriedBoth key f g places list left i places′ list′ GivenUp = Unit {0}
+TriedBoth key f g places list left i places′ list′ (Left left′) =
+    First (f (key i)) places list left i places′ list′ left′ ⊎ Second key (f (key i)) (g (key i)) places list left i places′ list′ left′
+
 -- of m listed records some are left in the list; the first of these that repeats an earlier one, or what was found, whichever is lower, is
 -- the first of all
 pub record Sifts (key : ℕ → ℕ) (n m : ℕ) (before : ℕ → ℕ) (after : List ℕ) (found left : ℕ) : Type 0 where
   pub fewer : left ≤ m
   pub listed : Rising n left (at after)
   pub answers : (o : ℕ) → FirstOf key (at after) n left o → FirstOf key before n m (least o found)
+
+-- those that are listed next: the same where the list has all that are left
+pub record Next (n : ℕ) (whole : Bool) (list : List ℕ) (found left : ℕ) (list′ : List ℕ) (found′ left′ : ℕ) : Type 0 where
+  pub sifts : (key : ℕ → ℕ) → (whole ≡ true → Sifts key n n (λ u. u) list found left) → Sifts key n n (λ u. u) list′ found′ left′
 
 -- the first of n records, from its index or n
 abbrev pub foundAt : ℕ → ℕ → Found

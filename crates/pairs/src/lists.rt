@@ -1,19 +1,19 @@
 // Lists of records' indices.
-use crate::keys::wide;
-ghost use mathlib.Core.Path.{_≡_};
-ghost use mathlib.Core.Bool.{true};
-ghost use Prim.Native.Nat.{_≤_, _<_};
+ghost use Prim.Native.Nat.{_≤_};
 ghost use lib.ListN.{length};
-ghost use Rattle.pairs.specs.Keys.{most};
+ghost use Rattle.numbers.specs.Folds.{Filled};
 ghost use Rattle.pairs.specs.Walks.{Zeros};
-ghost use Rattle.pairs.specs.Indices.{indexAt};
 
-// An entry of a list, or without one the index itself.
-pub(crate) fn index_at(list: &[u16], listed: bool, t: usize) -> usize
-    requires { ⌜ (listed ≡ true → t < length (now list)) × (t ≤ most) ⌝ }
-    ensures { λ r. ⌜ r ≡ indexAt listed (now (list .entry)) t ⌝ }
+// Lists the first m records.
+pub(crate) fn list_all(list: &mut [u16], m: usize)
+    requires { ⌜ (m ≤ length (now list)) × (m ≤ 65_536) ⌝ }
+    ensures { λ _. ⌜ Filled 0 (λ u. u) m (now (list .exit)) ⌝ }
 {
-    if listed { wide(list[t]) } else { t }
+    let mut u = 0;
+    while u < m {
+        list[u] = u as u16;
+        u += 1;
+    }
 }
 
 // Makes all entries 0.

@@ -7,15 +7,15 @@ use crate::keys::key_at;
 use crate::keys::smaller;
 use crate::keys::wide;
 use crate::lists::clear;
-use crate::lists::index_at;
+use crate::lists::list_all;
 ghost use mathlib.Core.Path.{_≡_};
-ghost use mathlib.Core.Bool.{true, cond};
+ghost use mathlib.Core.Bool.{true};
 ghost use Prim.Native.Nat.{_+_, _/_, _≤_, _<_};
-ghost use lib.ListN.{length, getD, set};
-ghost use Rattle.pairs.specs.Keys.{widthOf, keyAt, least, most, word};
+ghost use lib.ListN.{length};
+ghost use Rattle.pairs.specs.Keys.{widthOf, keyAt, most, word};
 ghost use Rattle.pairs.specs.Walks.{Keyed, Zeros};
-ghost use Rattle.pairs.specs.Indices.{Rising, indexAt};
-ghost use Rattle.pairs.specs.Sifting.{placeOf, Places, Held, Another, TriedAt, TriedSecond, kept, more, Sifts};
+ghost use Rattle.pairs.specs.Indices.{at, Rising};
+ghost use Rattle.pairs.specs.Sifting.{placeOf, Places, Held, Another, TriedAt, TriedSecond, kept, more, Puts, TriedBoth, Sifts, Next};
 
 // Two odd factors, of a key's lower half and of its upper half. With these, records in which every account holds every mark leave few.
 const LOWER: u64 = 2_654_435_761;
@@ -112,9 +112,8 @@ fn one_more(left: usize, held: usize) -> usize
 
 // Record i stays at an empty place, or comes to the end of those that are left. Both are written either way: no branch here too.
 fn stay_or_list(place: &mut [u16], spot: usize, i: usize, list: &mut [u16], left: usize) -> usize
-    requires { ⌜ (spot < length (now place)) × (left < length (now list)) × (left < most) × (i < most) × (getD (now place) spot 0 ≤ most) ⌝ }
-    ensures { λ r. ⌜ (now (place .exit) ≡ set (now (place .entry)) spot (kept (getD (now (place .entry)) spot 0) (i + 1)))
-        × (now (list .exit) ≡ set (now (list .entry)) left i) × (r ≡ more left (getD (now (place .entry)) spot 0)) ⌝ }
+    requires { ⌜ (spot < length (now place)) × (left < length (now list)) × (left < most) × (i < most) × (Held most (now place)) ⌝ }
+    ensures { λ r. ⌜ Puts (now (place .entry)) spot i (now (list .entry)) left (now (place .exit)) (now (list .exit)) r ⌝ }
 {
     let held = wide(place[spot]);
     place[spot] = held_at(held, i + 1) as u16;
@@ -122,71 +121,113 @@ fn stay_or_list(place: &mut [u16], spot: usize, i: usize, list: &mut [u16], left
     one_more(left, held)
 }
 
-// Whether to give up after t of m records: many are left, and fewer stay than half of those that are still to come, so that it takes less
-// time to sift all by other places. No answer depends on it.
-fn gives_up(left: usize, t: usize, m: usize) -> bool
-    requires { ⌜ (left ≤ t) × (t ≤ m) × (m ≤ most) ⌝ }
+// Whether to give up at record t: many are left, and most are still to come, so that it takes less time to sift all by other places. No
+// answer depends on it.
+fn gives_up(left: usize, t: usize, limit: usize) -> bool
     ensures { λ _. ⊤ₛ }
 {
-    (64 < left) & (2 * (t - left) < m - t)
+    (64 < left) & (t < limit)
 }
 
-// Sifts m records of n, by places that are empty: those in a list, or the first without one. The list then has those that are left, unless
-// it gives up.
-fn sift(
+// What comes of a record: it repeats another; or too many are left; or so many are.
+pub enum Step {
+    Repeated,
+    GivenUp,
+    Left(usize),
+}
+
+// Lets record i try its two places, after t others; for the second place the two numbers change their parts.
+fn try_both(
+    records: &[u8],
+    size: usize,
+    key: Key,
+    i: usize,
+    lower: u64,
+    upper: u64,
+    place: &mut [u16],
+    shift: u32,
+    list: &mut [u16],
+    left: usize,
+    t: usize,
+    limit: usize,
+) -> Step
+    requires { ⌜ (widthOf key ≤ size) × (i < length (now records) / size) × (i < most) × (lower < word) × (upper < word)
+        × (Held (length (now records) / size) (now place)) × (Held most (now place)) × (Places shift (now place))
+        × (left < length (now list)) × (left < most) ⌝ }
+    ensures { λ r. ⌜ TriedBoth (keyAt key size (now (records .entry))) (placeOf lower upper shift) (placeOf upper lower shift)
+        (now (place .entry)) (now (list .entry)) left i (now (place .exit)) (now (list .exit)) r ⌝ }
+{
+    let x = key_at(records, size, key, i);
+    let first = place_of(x, lower, upper, shift);
+    match try_at(records, size, key, place, first, i, x) {
+        Placed::Stays => {
+            return Step::Left(left);
+        }
+        Placed::Repeats => {
+            return Step::Repeated;
+        }
+        Placed::Differs => {}
+    }
+    let second = place_of(x, upper, lower, shift);
+    if repeats_at(records, size, key, place, first, second, x) {
+        return Step::Repeated;
+    }
+    if gives_up(left, t, limit) {
+        return Step::GivenUp;
+    }
+    Step::Left(stay_or_list(place, second, i, list, left))
+}
+
+// Sifts all of n records by places that are empty. The list then has those that are left, unless it gives up.
+fn sift_first(
     records: &[u8],
     size: usize,
     key: Key,
     n: usize,
     list: &mut [u16],
-    listed: bool,
-    m: usize,
-    lower: u64,
-    upper: u64,
     place: &mut [u16],
     shift: u32,
 ) -> Sifted
-    requires { ⌜ (Keyed key size (now records) n) × (Rising n m (indexAt listed (now list))) × (m ≤ length (now list)) × (m ≤ n)
-        × (Places shift (now place)) × Zeros (now place) × (lower < word) × (upper < word) ⌝ }
-    ensures { λ r. ⌜ (r .whole ≡ true → Sifts (keyAt key size (now (records .entry))) n m
-        (indexAt listed (now (list .entry))) (now (list .exit)) (r .found) (r .left)) ⌝ }
+    requires { ⌜ (Keyed key size (now records) n) × (n ≤ length (now list)) × (Places shift (now place)) × Zeros (now place) ⌝ }
+    ensures { λ r. ⌜ (r .whole ≡ true → Sifts (keyAt key size (now (records .entry))) n n (λ u. u) (now (list .exit)) (r .found) (r .left)) ⌝ }
 {
+    let limit = n / 3;
     let mut left = 0;
-    let mut t = 0;
-    while t < m {
-        let i = index_at(list, listed, t);
-        let x = key_at(records, size, key, i);
-        t += 1;
-        let first = place_of(x, lower, upper, shift);
-        match try_at(records, size, key, place, first, i, x) {
-            Placed::Stays => {
-                continue;
-            }
-            Placed::Repeats => {
+    let mut i = 0;
+    while i < n {
+        match try_both(
+            records,
+            size,
+            key,
+            i,
+            LOWER,
+            UPPER,
+            place,
+            shift,
+            list,
+            left,
+            i,
+            limit,
+        ) {
+            Step::Repeated => {
                 return Sifted {
                     found: i,
                     left,
                     whole: true,
                 };
             }
-            Placed::Differs => {}
+            Step::GivenUp => {
+                return Sifted {
+                    found: n,
+                    left,
+                    whole: false,
+                };
+            }
+            Step::Left(more) => {
+                left = more;
+            }
         }
-        let second = place_of(x, upper, lower, shift);
-        if repeats_at(records, size, key, place, first, second, x) {
-            return Sifted {
-                found: i,
-                left,
-                whole: true,
-            };
-        }
-        if gives_up(left, t, m) {
-            return Sifted {
-                found: n,
-                left,
-                whole: false,
-            };
-        }
-        left = stay_or_list(place, second, i, list, left);
+        i += 1;
     }
     Sifted {
         found: n,
@@ -195,7 +236,7 @@ fn sift(
     }
 }
 
-// Sifts n records by places that are empty, with a loop of its own for each width of keys.
+// Sifts them with a loop of its own for each width of keys.
 fn sift_once(
     records: &[u8],
     size: usize,
@@ -209,43 +250,82 @@ fn sift_once(
     ensures { λ r. ⌜ (r .whole ≡ true → Sifts (keyAt key size (now (records .entry))) n n (λ u. u) (now (list .exit)) (r .found) (r .left)) ⌝ }
 {
     match key {
-        Key::Four => sift(
-            records,
-            size,
-            Key::Four,
-            n,
-            list,
-            false,
-            n,
-            LOWER,
-            UPPER,
-            place,
-            shift,
-        ),
-        Key::Eight => sift(
-            records,
-            size,
-            Key::Eight,
-            n,
-            list,
-            false,
-            n,
-            LOWER,
-            UPPER,
-            place,
-            shift,
-        ),
+        Key::Four => sift_first(records, size, Key::Four, n, list, place, shift),
+        Key::Eight => sift_first(records, size, Key::Eight, n, list, place, shift),
     }
 }
 
-// Sifts m records of n by other factors: few of them by a sixteenth of the places.
+// Sifts the m records of a list so.
+fn sift_listed(
+    records: &[u8],
+    size: usize,
+    key: Key,
+    n: usize,
+    list: &mut [u16],
+    m: usize,
+    lower: u64,
+    upper: u64,
+    place: &mut [u16],
+    shift: u32,
+) -> Sifted
+    requires { ⌜ (Keyed key size (now records) n) × (Rising n m (at (now list))) × (m ≤ length (now list)) × (m ≤ n)
+        × (Places shift (now place)) × Zeros (now place) × (lower < word) × (upper < word) ⌝ }
+    ensures { λ r. ⌜ (r .whole ≡ true → Sifts (keyAt key size (now (records .entry))) n m (at (now (list .entry))) (now (list .exit))
+        (r .found) (r .left)) ⌝ }
+{
+    let limit = m / 3;
+    let mut left = 0;
+    let mut t = 0;
+    while t < m {
+        let i = wide(list[t]);
+        match try_both(
+            records,
+            size,
+            key,
+            i,
+            lower,
+            upper,
+            place,
+            shift,
+            list,
+            left,
+            t,
+            limit,
+        ) {
+            Step::Repeated => {
+                return Sifted {
+                    found: i,
+                    left,
+                    whole: true,
+                };
+            }
+            Step::GivenUp => {
+                return Sifted {
+                    found: n,
+                    left,
+                    whole: false,
+                };
+            }
+            Step::Left(more) => {
+                left = more;
+            }
+        }
+        t += 1;
+    }
+    Sifted {
+        found: n,
+        left,
+        whole: true,
+    }
+}
+
+// Sifts the m records of a list by places that are cleared before: few of them by a sixteenth of the places.
 fn sift_anew(
     records: &[u8],
     size: usize,
     key: Key,
     n: usize,
     list: &mut [u16],
-    listed: bool,
     m: usize,
     lower: u64,
     upper: u64,
@@ -253,20 +333,19 @@ fn sift_anew(
     shift: u32,
     other: &mut [u16],
 ) -> Sifted
-    requires { ⌜ (Keyed key size (now records) n) × (Rising n m (indexAt listed (now list))) × (m ≤ length (now list)) × (m ≤ n)
+    requires { ⌜ (Keyed key size (now records) n) × (Rising n m (at (now list))) × (m ≤ length (now list)) × (m ≤ n)
         × (Places shift (now place)) × Places (shift + 4) (now other) × (lower < word) × (upper < word) ⌝ }
-    ensures { λ r. ⌜ (r .whole ≡ true → Sifts (keyAt key size (now (records .entry))) n m
-        (indexAt listed (now (list .entry))) (now (list .exit)) (r .found) (r .left)) ⌝ }
+    ensures { λ r. ⌜ (r .whole ≡ true → Sifts (keyAt key size (now (records .entry))) n m (at (now (list .entry))) (now (list .exit))
+        (r .found) (r .left)) ⌝ }
 {
     if m <= n / 16 {
         clear(other);
-        return sift(
+        return sift_listed(
             records,
             size,
             key,
             n,
             list,
-            listed,
             m,
             lower,
             upper,
@@ -275,36 +354,26 @@ fn sift_anew(
         );
     }
     clear(place);
-    sift(
-        records,
-        size,
-        key,
-        n,
-        list,
-        listed,
-        m,
-        lower,
-        upper,
-        place,
-        shift,
-    )
+    sift_listed(records, size, key, n, list, m, lower, upper, place, shift)
 }
 
-// What is left to sift: the list, or all where it does not have them.
-fn to_sift(whole: bool, left: usize, n: usize) -> usize
-    ensures { λ r. ⌜ r ≡ cond whole left n ⌝ }
+// What is to be sifted next: those that are left, or all again where it gave up.
+fn to_sift(list: &mut [u16], n: usize, s: Sifted) -> Sifted
+    requires { ⌜ (n ≤ length (now list)) × (n ≤ most) ⌝ }
+    ensures { λ r. ⌜ Next n (s .whole) (now (list .entry)) (s .found) (s .left) (now (list .exit)) (r .found) (r .left) ⌝ }
 {
-    if whole { left } else { n }
+    if s.whole {
+        return s;
+    }
+    list_all(list, n);
+    Sifted {
+        found: n,
+        left: n,
+        whole: true,
+    }
 }
 
-// What is found so far, with what is found anew: nothing was where all are sifted again.
-fn found_with(whole: bool, anew: usize, found: usize) -> usize
-    ensures { λ r. ⌜ r ≡ cond whole (least anew found) anew ⌝ }
-{
-    if whole { smaller(anew, found) } else { anew }
-}
-
-// Sifts n records, and then those that are left, or all where it gave up, by other factors in each turn.
+// Sifts n records, and then what is left of them by other factors in each turn.
 pub(crate) fn sift_all(
     records: &[u8],
     size: usize,
@@ -319,35 +388,33 @@ pub(crate) fn sift_all(
         × Places (shift + 4) (now other) ⌝ }
     ensures { λ r. ⌜ (r .whole ≡ true → Sifts (keyAt key size (now (records .entry))) n n (λ u. u) (now (list .exit)) (r .found) (r .left)) ⌝ }
 {
-    let once = sift_once(records, size, key, n, list, place, shift);
-    let mut found = once.found;
-    let mut left = once.left;
-    let mut whole = once.whole;
+    let mut s = sift_once(records, size, key, n, list, place, shift);
     let mut lower = LOWER;
     let mut upper = UPPER;
     let mut turns = 0usize;
-    while (turns < TURNS) & (!whole | (0 < left)) {
+    while (turns < TURNS) & (!s.whole | (0 < s.left)) {
         lower = lower * ANEW % WORD;
         upper = upper * LOWER % WORD;
-        let m = to_sift(whole, left, n);
+        let all = to_sift(list, n, s);
         let anew = sift_anew(
             records,
             size,
             key,
             n,
             list,
-            whole,
-            m,
+            all.left,
             lower,
             upper,
             place,
             shift,
             other,
         );
-        found = found_with(whole, anew.found, found);
-        left = anew.left;
-        whole = anew.whole;
+        s = Sifted {
+            found: smaller(anew.found, all.found),
+            left: anew.left,
+            whole: anew.whole,
+        };
         turns += 1;
     }
-    Sifted { found, left, whole }
+    s
 }

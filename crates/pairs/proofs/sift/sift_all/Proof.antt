@@ -9,18 +9,18 @@ use borrow.Author.Tests.{ltb-true}
 use Rattle.numbers.proofs.Truth.{and-left}
 use Rattle.pairs.specs.Keys.{keyAt, word}
 use Rattle.pairs.specs.Sifting.{Sifts}
-use Rattle.pairs.proofs.Sifted.{places-as, sifts-anew, rising-anew, few-anew}
+use Rattle.pairs.proofs.Sifted.{places-as, sifts-sifts}
 use borrow.Author.Needs.{needs}
 use Rattle.pairs.proofs.sift.sift_all.Statement.{statement}
 use Rattle.pairs.proofs.sift.sift_all.Tie as tie
 
 abbrev Inv-loop : tie.InvT-loop
-Inv-loop records size key n list₀ place₀ shift other₀ found₀ left₀ whole₀ lower₀ upper₀ turns₀ list place other found left whole lower upper turns =
+Inv-loop records size key n list₀ place₀ shift other₀ s₀ lower₀ upper₀ turns₀ list place other s lower upper turns =
     (length list ≡ length list₀) × (length place ≡ length place₀) × (length other ≡ length other₀)
-    × (whole ≡ true → Sifts (keyAt key size records) n n (λ u. u) list found left) × (lower < word) × (upper < word)
+    × (s .whole ≡ true → Sifts (keyAt key size records) n n (λ u. u) list (s .found) (s .left)) × (lower < word) × (upper < word)
 
 abbrev μ-loop : tie.MeasureT-loop
-μ-loop records size key n list₀ place₀ shift other₀ found₀ left₀ whole₀ lower₀ upper₀ turns₀ list place other found left whole lower upper turns = 16 - turns
+μ-loop records size key n list₀ place₀ shift other₀ s₀ lower₀ upper₀ turns₀ list place other s lower upper turns = 16 - turns
 
 -- what the loop's test tells
 taken-turns : (turns : ℕ) (more : Bool) → (ltb turns 16 && more) ≡ true → turns < 16
@@ -30,57 +30,58 @@ loop-holds : tie.Need-loop-holds Inv-loop μ-loop
 loop-holds c = (refl, refl, refl, c .before .before .before .before .sift-once .ensures, omega arith, omega arith)
 
 mul-lower : tie.Need-mul-lower Inv-loop μ-loop
-mul-lower c = omega (arith, c .before .loop .inv .4)
+mul-lower c = omega (arith, c .before .before .before .loop .inv .4)
 
 mul-upper : tie.Need-mul-upper Inv-loop μ-loop
-mul-upper c = omega (arith, c .before .loop .inv .5)
+mul-upper c = omega (arith, c .before .before .before .loop .inv .5)
+
+to-sift-requires : tie.Need-to-sift-requires Inv-loop μ-loop
+to-sift-requires c κs = (omega (arith, c .before .before .before .before .before .before .before .before .before .before .before .before .before .before .before .before .pre .1, c .before .before .before .before .loop .inv .0, c .before .before .before .before .before .before .before .before .list .given), c .before .before .before .before .before .before .before .before .before .before .before .before .before .before .before .before .pre .0 .few)
 
 sift-anew-requires : tie.Need-sift-anew-requires Inv-loop μ-loop
 sift-anew-requires c κs =
-    let p = c .before .before .before .before .before .before .before .before .before .before .before .before .before .before .before .before .before .pre in
-    let l = c .before .before .before .before .before .loop in
-    let w = l .inv .3 in
-    let few = few-anew (l .whole) w in
-    let m = c .before .before .before .to-sift .ensures in (
+    let p = c .before .before .before .before .before .before .before .before .before .before .before .before .before .before .before .before .before .before .before .before .before .before .pre in
+    let l = c .before .before .before .before .before .before .before .before .before .before .loop in
+    let w = c .before .before .before .before .before .to-sift .ensures .sifts _ (l .inv .3) in (
       p .0,
-      rw m (rising-anew (l .whole) w),
-      omega (arith, m, few, p .1, l .inv .0, c .before .before .before .before .before .before .before .before .before .list .given),
-      omega (arith, m, few),
-      places-as (l .inv .1 ∙ c .before .before .before .before .before .before .before .place .given) (p .2),
+      w .listed,
+      omega (arith, w .fewer, p .1, l .inv .0, c .before .before .before .before .before .before .before .before .before .before .before .before .before .before .list .given, c .before .before .before .before .list2 .given),
+      w .fewer,
+      places-as (l .inv .1 ∙ c .before .before .before .before .before .before .before .before .before .before .before .before .place .given) (p .2),
       places-as (l .inv .2) (p .4),
       omega arith,
       omega arith,
     )
 
 add-turns : tie.Need-add-turns Inv-loop μ-loop
-add-turns c = omega (arith, taken-turns (c .before .before .before .before .before .before .before .before .before .before .before .before .before .loop .turns) (not (c .before .before .before .before .before .before .before .before .before .before .before .before .before .loop .whole) || ltb 0 (c .before .before .before .before .before .before .before .before .before .before .before .before .before .loop .left)) (c .before .before .before .before .before .before .before .before .before .before .before .before .loop-test .taken))
+add-turns c = omega (arith, taken-turns (c .before .before .before .before .before .before .before .before .before .before .before .before .before .before .before .before .before .before .loop .turns) (not (c .before .before .before .before .before .before .before .before .before .before .before .before .before .before .before .before .before .before .loop .s .whole) || ltb 0 (c .before .before .before .before .before .before .before .before .before .before .before .before .before .before .before .before .before .before .loop .s .left)) (c .before .before .before .before .before .before .before .before .before .before .before .before .before .before .before .if1 .taken))
 
 loop-less : tie.Need-loop-less Inv-loop μ-loop
-loop-less c = omega (arith, taken-turns (c .before .before .before .before .before .before .before .before .before .before .before .before .before .loop .turns) (not (c .before .before .before .before .before .before .before .before .before .before .before .before .before .loop .whole) || ltb 0 (c .before .before .before .before .before .before .before .before .before .before .before .before .before .loop .left)) (c .before .before .before .before .before .before .before .before .before .before .before .before .loop-test .taken))
+loop-less c = omega (arith, taken-turns (c .before .before .before .before .before .before .before .before .before .before .before .before .before .before .before .before .before .before .loop .turns) (not (c .before .before .before .before .before .before .before .before .before .before .before .before .before .before .before .before .before .before .loop .s .whole) || ltb 0 (c .before .before .before .before .before .before .before .before .before .before .before .before .before .before .before .before .before .before .loop .s .left)) (c .before .before .before .before .before .before .before .before .before .before .before .before .before .before .before .if1 .taken))
 
 loop-again : tie.Need-loop-again Inv-loop μ-loop
 loop-again c =
-    let l = c .before .before .before .before .before .before .before .before .before .before .before .before .before .loop in
-    let w = rw (c .before .before .before .before .before .before .before .before .before .before .before .to-sift .ensures) at (c .before .before .before .before .before .before .before .sift-anew .ensures) in (
-      c .before .before .before .before .before .before .list2 .given ∙ l .inv .0,
+    let l = c .before .before .before .before .before .before .before .before .before .before .before .before .before .before .before .before .before .before .loop in
+    let w = c .before .before .before .before .before .before .before .before .before .before .before .before .before .to-sift .ensures .sifts _ (l .inv .3) in (
+      c .before .before .before .before .before .before .list3 .given ∙ c .before .before .before .before .before .before .before .before .before .before .before .before .list2 .given ∙ l .inv .0,
       c .before .before .before .before .place2 .given ∙ l .inv .1,
       c .before .before .other .given ∙ l .inv .2,
-      λ q. rw (c .found-with .ensures) (sifts-anew (l .whole) (l .inv .3) (w q)),
+      λ q. rw (c .smaller .ensures) (sifts-sifts w (c .before .before .before .before .before .before .before .sift-anew .ensures q)),
       omega arith,
       omega arith,
     )
 
 same-length : tie.Need-same-length Inv-loop μ-loop
-same-length c = c .before .loop .inv .0 ∙ c .before .before .before .before .before .list .given
+same-length c = c .before .before .before .loop .inv .0 ∙ c .before .before .before .before .before .before .before .list .given
 
 same-length-2 : tie.Need-same-length-2 Inv-loop μ-loop
-same-length-2 c = c .before .loop .inv .1 ∙ c .before .before .before .place .given
+same-length-2 c = c .before .before .before .loop .inv .1 ∙ c .before .before .before .before .before .place .given
 
 same-length-3 : tie.Need-same-length-3 Inv-loop μ-loop
-same-length-3 c = c .before .loop .inv .2
+same-length-3 c = c .before .before .before .loop .inv .2
 
 returns : tie.Need-returns Inv-loop μ-loop
-returns c = c .before .loop .inv .3
+returns c = c .before .before .before .loop .inv .3
 
 pub sift-all-spec : {M : Type 1} → statement M
 sift-all-spec =
@@ -92,7 +93,7 @@ sift-all-spec =
     loop-holds
     mul-lower
     mul-upper
-    (λ c κs. search needs)
+    to-sift-requires
     sift-anew-requires
     (λ c κs. search needs)
     add-turns

@@ -4,13 +4,13 @@ use borrow.Author.Needs.{needs}
 use Rattle.pairs.proofs.sift.sift_anew.Statement.{statement}
 use Rattle.pairs.proofs.sift.sift_anew.Tie as tie
 
-sift-requires : tie.Need-sift-requires
-sift-requires c κs =
+sift-listed-requires : tie.Need-sift-listed-requires
+sift-listed-requires c κs =
     let p = c .before .before .before .before .before .before .before .before .before .before .before .pre in
     (p .0, p .1, p .2, p .3, places-as (c .before .before .before .other .given) (p .5), c .before .before .before .before .clear .ensures, p .6, p .7)
 
-sift-requires-2 : tie.Need-sift-requires-2
-sift-requires-2 c κs =
+sift-listed-requires-2 : tie.Need-sift-listed-requires-2
+sift-listed-requires-2 c κs =
     let p = c .before .before .before .before .before .before .before .before .before .before .before .pre in
     (p .0, p .1, p .2, p .3, places-as (c .before .before .before .place .given) (p .4), c .before .before .before .before .clear2 .ensures, p .6, p .7)
 
@@ -20,12 +20,12 @@ sift-anew-spec =
     (tie.spec
     (λ c κs. search needs)
     (λ c. search needs)
-    sift-requires
+    sift-listed-requires
     (λ c. search needs)
     (λ c. search needs)
     (λ c. search needs)
     (λ c κs. search needs)
-    sift-requires-2
+    sift-listed-requires-2
     (λ c. search needs)
     (λ c. search needs)
     (λ c. search needs))

@@ -21,13 +21,13 @@ cast-place : tie.Need-cast-place
 cast-place c =
     let p = c .before .before .before .before .before .pre in
     let w = c .before .wide in
-    omega (arith, c .held-at .ensures, kept-few (w .result) (c .before .before .before .before .before .args .i + 1) 4_096 (omega (arith, w .ensures, p .4)) (omega (arith, p .3)))
+    omega (arith, c .held-at .ensures, kept-few (w .result) (c .before .before .before .before .before .args .i + 1) 4_096 (omega (arith, w .ensures, p .4 (c .before .before .before .before .before .args .spot))) (omega (arith, p .3)))
 
 returns : tie.Need-returns
 returns c =
     let a = c .before .before .before .before .before .before .args in
     let w = c .before .before .wide .ensures in
-    (ap (set (a .place .now) (a .spot)) (rw w at (c .before .held-at .ensures)), refl, rw w at (c .one-more .ensures))
+    record { place = ap (set (a .place .now) (a .spot)) (rw w at (c .before .held-at .ensures)); entry = refl; count = rw w at (c .one-more .ensures) }
 
 pub stay-or-list-spec : {M : Type 1} → statement M
 stay-or-list-spec =
