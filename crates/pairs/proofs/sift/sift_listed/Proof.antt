@@ -13,12 +13,12 @@ use Rattle.pairs.proofs.sift.sift_listed.Statement.{statement}
 use Rattle.pairs.proofs.sift.sift_listed.Tie as tie
 
 abbrev Inv-loop : tie.InvT-loop
-Inv-loop records size key n list₀ m lower upper place₀ shift limit left₀ t₀ list place left t =
+Inv-loop records size key n list₀ m lower upper place₀ shift left₀ t₀ list place left t =
     (t ≤ m) × (length list ≡ length list₀) × (length place ≡ length place₀)
     × Sifting (keyAt key size records) (spotOf lower upper shift) (at list₀) true place list t left
 
 abbrev μ-loop : tie.MeasureT-loop
-μ-loop records size key n list₀ m lower upper place₀ shift limit left₀ t₀ list place left t = m - t
+μ-loop records size key n list₀ m lower upper place₀ shift left₀ t₀ list place left t = m - t
 
 loop-holds : tie.Need-loop-holds Inv-loop μ-loop
 loop-holds c = (omega arith, refl, refl, sifting-start (c .before .before .before .pre .5))
@@ -29,7 +29,8 @@ try-both-requires c κs =
     let l = c .before .before .before .before .before .loop in
     let h = c .before .before .before .before .loop-test .taken in
     let is = c .before .before .wide .ensures ∙ l .inv .3 .tail (l .t) (omega arith) in
-    let k = p .1 .below _ h in (
+    let k = p .1 .below _ h in
+    (
       p .0 .wide (omega (arith, k)),
       omega (arith, p .0 .whole, k, is),
       omega (arith, p .0 .few, k, is),
