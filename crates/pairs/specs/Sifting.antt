@@ -21,6 +21,11 @@ use Rattle.pairs.specs.declared.first.Tried.the-variants.{Answered, Unan
 unfoldable pub placeOf : ℕ → ℕ → ℕ → ℕ → ℕ
 placeOf lower upper shift x = (x % word * lower % word + x / word * upper % word) % word / 2 ^ shift
 
+-- what a key's places are made of: the key, or its two halves multiplied, each with a number added
+abbrev pub stirredBy : Bool → ℕ → ℕ → ℕ → ℕ
+stirredBy true lower upper x = (x % word + lower) % word * ((x / word + upper) % word)
+stirredBy false lower upper x = x
+
 -- a list has room for all these places
 pub record Places (shift : ℕ) (list : List ℕ) : Type 0 where
   pub short : shift < 64

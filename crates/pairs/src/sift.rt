@@ -16,7 +16,7 @@ ghost use lib.ListN.{length};
 ghost use Rattle.pairs.specs.Keys.{widthOf, keyAt, most, word};
 ghost use Rattle.pairs.specs.Walks.{Keyed, Zeros};
 ghost use Rattle.pairs.specs.Indices.{at, Rising};
-ghost use Rattle.pairs.specs.Sifting.{placeOf, Places, Held, Another, TriedAt, TriedSecond, kept, more, Puts, TriedBoth, Sifts, Next};
+ghost use Rattle.pairs.specs.Sifting.{placeOf, stirredBy, Places, Held, Another, TriedAt, TriedSecond, kept, more, Puts, TriedBoth, Sifts, Next};
 
 // Two odd factors, of a key's lower half and of its upper half. With these, records in which every account holds every mark leave few.
 const LOWER: u64 = 2_654_435_761;
@@ -44,6 +44,19 @@ fn place_of(x: u64, lower: u64, upper: u64, shift: u32) -> usize
     let low = x % WORD * lower % WORD;
     let high = x / WORD * upper % WORD;
     ((low + high) % WORD >> shift) as usize
+}
+
+// What a key's places are made of: the key, or where a list is sifted anew the product of its two halves, each with a number added. Sums of
+// multiples alone would let keys that differ in their highest bits alone meet again in each turn.
+fn stirred(x: u64, lower: u64, upper: u64, anew: bool) -> u64
+    requires { ⌜ (lower < word) × (upper < word) ⌝ }
+    ensures { λ r. ⌜ r ≡ stirredBy anew lower upper x ⌝ }
+{
+    if anew {
+        (x % WORD + lower) % WORD * ((x / WORD + upper) % WORD)
+    } else {
+        x
+    }
 }
 
 // What comes of a record's try at a place: it stays there, or repeats the record that is there, or that one has another key.
@@ -144,6 +157,7 @@ fn try_both(
     i: usize,
     lower: u64,
     upper: u64,
+    anew: bool,
     place: &mut [u16],
     shift: u32,
     list: &mut [u16],
@@ -153,11 +167,13 @@ fn try_both(
     requires { ⌜ (widthOf key ≤ size) × (i < length (now records) / size) × (i < most) × (lower < word) × (upper < word)
         × (Held (length (now records) / size) (now place)) × (Held most (now place)) × (Places shift (now place))
         × (left < length (now list)) × (left < most) ⌝ }
-    ensures { λ r. ⌜ TriedBoth (keyAt key size (now (records .entry))) (placeOf lower upper shift) (placeOf upper lower shift)
+    ensures { λ r. ⌜ TriedBoth (keyAt key size (now (records .entry)))
+        (λ x. placeOf lower upper shift (stirredBy anew lower upper x)) (λ x. placeOf upper lower shift (stirredBy anew lower upper x))
         (now (place .entry)) (now (list .entry)) left i (now (place .exit)) (now (list .exit)) r ⌝ }
 {
     let x = key_at(records, size, key, i);
-    let first = place_of(x, lower, upper, shift);
+    let y = stirred(x, lower, upper, anew);
+    let first = place_of(y, lower, upper, shift);
     match try_at(records, size, key, place, first, i, x) {
         Placed::Stays => {
             return Step::Left(left);
@@ -167,7 +183,7 @@ fn try_both(
         }
         Placed::Differs => {}
     }
-    let second = place_of(x, upper, lower, shift);
+    let second = place_of(y, upper, lower, shift);
     if repeats_at(records, size, key, place, first, second, x) {
         return Step::Repeated;
     }
@@ -200,6 +216,7 @@ fn sift_first(
             i,
             LOWER,
             UPPER,
+            false,
             place,
             shift,
             list,
@@ -281,6 +298,7 @@ fn sift_listed(
             i,
             lower,
             upper,
+            true,
             place,
             shift,
             list,

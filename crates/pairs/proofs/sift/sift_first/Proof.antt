@@ -6,7 +6,8 @@ use native.Mathlib.Nat.{le-trans}
 use native.Mathlib.Omega.{arith}
 use lib.ListN.{length}
 use Rattle.pairs.specs.Keys.{keyAt}
-use Rattle.pairs.specs.Indices.{at, indexAt}
+use Rattle.pairs.specs.Indices.{at}
+use Rattle.pairs.specs.Sifting.{stirredBy}
 use Rattle.pairs.proofs.Sifted.{Sifting, spotOf, spot-below, places-as, sifting-start, held-few, as-was, tried, sifted-found, sifted-all}
 use borrow.Author.Needs.{needs}
 use Rattle.pairs.proofs.sift.sift_first.Statement.{statement}
@@ -27,8 +28,7 @@ try-both-requires : tie.Need-try-both-requires Inv-loop μ-loop
 try-both-requires c κs =
     let p = c .before .before .before .before .before .before .before .pre in
     let l = c .before .before .before .loop in
-    let h = c .before .before .loop-test .taken in
-    (
+    let h = c .before .before .loop-test .taken in (
       p .0 .wide (omega (arith, h)),
       omega (arith, p .0 .whole, h),
       omega (arith, p .0 .few, h),

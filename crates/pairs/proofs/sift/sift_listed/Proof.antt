@@ -6,7 +6,8 @@ use native.Mathlib.Nat.{le-trans}
 use native.Mathlib.Omega.{arith}
 use lib.ListN.{length}
 use Rattle.pairs.specs.Keys.{keyAt}
-use Rattle.pairs.specs.Indices.{at, indexAt}
+use Rattle.pairs.specs.Indices.{at}
+use Rattle.pairs.specs.Sifting.{stirredBy}
 use Rattle.pairs.proofs.Sifted.{Sifting, spotOf, spot-below, places-as, sifting-start, held-few, as-was, tried, sifted-found, sifted-all}
 use borrow.Author.Needs.{needs}
 use Rattle.pairs.proofs.sift.sift_listed.Statement.{statement}
@@ -15,7 +16,7 @@ use Rattle.pairs.proofs.sift.sift_listed.Tie as tie
 abbrev Inv-loop : tie.InvT-loop
 Inv-loop records size key n list₀ m lower upper place₀ shift left₀ t₀ list place left t =
     (t ≤ m) × (length list ≡ length list₀) × (length place ≡ length place₀)
-    × Sifting (keyAt key size records) (spotOf lower upper shift) (at list₀) true place list t left
+    × Sifting (keyAt key size records) (λ b x. spotOf lower upper shift b (stirredBy true lower upper x)) (at list₀) true place list t left
 
 abbrev μ-loop : tie.MeasureT-loop
 μ-loop records size key n list₀ m lower upper place₀ shift left₀ t₀ list place left t = m - t
@@ -29,8 +30,7 @@ try-both-requires c κs =
     let l = c .before .before .before .before .before .loop in
     let h = c .before .before .before .before .loop-test .taken in
     let is = c .before .before .wide .ensures ∙ l .inv .3 .tail (l .t) (omega arith) in
-    let k = p .1 .below _ h in
-    (
+    let k = p .1 .below _ h in (
       p .0 .wide (omega (arith, k)),
       omega (arith, p .0 .whole, k, is),
       omega (arith, p .0 .few, k, is),

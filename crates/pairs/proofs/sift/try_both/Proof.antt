@@ -19,45 +19,46 @@ by-second same f s w = rw (sym same) (record { first = f; second = s; puts = w }
 
 try-at-requires : tie.Need-try-at-requires
 try-at-requires c κs =
-    let p = c .before .before .before .before .before .before .pre in
+    let p = c .before .before .before .before .before .before .before .pre in
     (p .0, p .5, rw (c .before .place-of .ensures) (place-below _ _ _ (p .7) refl), p .2)
 
 returns : tie.Need-returns
-returns c = inl (record { comes = rw (c .enum-told .given .1, c .before .before .before .before .before .before .place-of .ensures, c .before .before .before .before .before .before .before .key-at .ensures) at (c .before .before .before .before .try-at .ensures); entry = refl; count = refl })
+returns c = inl (record { comes = rw (c .enum-told .given .1, c .before .before .before .before .before .before .place-of .ensures, c .before .before .before .before .before .before .before .stirred .ensures, c .before .before .before .before .before .before .before .before .key-at .ensures) at (c .before .before .before .before .try-at .ensures); entry = refl; count = refl })
 
 returns-2 : tie.Need-returns-2
 returns-2 c =
-    let q = rw (c .enum-told2 .given .1, c .before .before .before .before .before .before .before .key-at .ensures) at (c .before .before .before .before .try-at .ensures) in
+    let q = rw (c .enum-told2 .given .1, c .before .before .before .before .before .before .before .before .key-at .ensures) at (c .before .before .before .before .try-at .ensures) in
     (q .0, refl, rw (q .0) at (q .1))
 
 repeats-at-requires : tie.Need-repeats-at-requires
 repeats-at-requires c κs =
-    let p = c .before .before .before .before .before .before .before .before .before .before .before .before .before .pre in
+    let p = c .before .before .before .before .before .before .before .before .before .before .before .before .before .before .pre in
     let q = rw (c .before .before .enum-told3 .given .1) at (c .before .before .before .before .before .before .try-at .ensures) in
     (p .0, λ a. rw (q .0) (p .5 a), rw (c .before .before .before .before .before .before .before .before .place-of .ensures) (place-below _ _ _ (p .7) (c .before .before .before .before .before .place .given)), rw (c .before .place-of2 .ensures) (place-below _ _ _ (p .7) (c .before .before .before .before .before .place .given)), q .1)
 
 returns-3 : tie.Need-returns-3
 returns-3 c =
     let q = rw (c .before .before .before .before .enum-told3 .given .1) at (c .before .before .before .before .before .before .before .before .try-at .ensures) in
-    (q .0, refl, rw (q .0, c .before .before .before .before .before .before .before .before .before .before .before .key-at .ensures) at (c .before .repeats-at .ensures .same (c .if1 .taken)))
+    (q .0, refl, rw (q .0, c .before .before .before .before .before .before .before .before .before .before .before .before .key-at .ensures) at (c .before .repeats-at .ensures .same (c .if1 .taken)))
 
 stay-or-list-requires : tie.Need-stay-or-list-requires
 stay-or-list-requires c κs =
-    let p = c .before .before .before .before .before .before .before .before .before .before .before .before .before .before .before .before .before .before .before .pre in
+    let p = c .before .before .before .before .before .before .before .before .before .before .before .before .before .before .before .before .before .before .before .before .pre in
     let q = rw (c .before .before .before .before .before .before .before .before .enum-told3 .given .1) at (c .before .before .before .before .before .before .before .before .before .before .before .before .try-at .ensures) in
     (rw (c .before .before .before .before .before .before .before .place-of2 .ensures) (place-below _ _ _ (p .7) (c .before .before .before .before .before .before .before .before .before .before .before .place .given)), p .8, p .9, p .2, λ a. rw (q .0) (p .6 a))
 
 returns-5 : tie.Need-returns-5
 returns-5 c =
-    let q = rw (c .before .before .before .before .before .before .before .before .before .before .before .before .before .enum-told3 .given .1, c .before .before .before .before .before .before .before .before .before .before .before .before .before .before .before .before .before .before .before .place-of .ensures, c .before .before .before .before .before .before .before .before .before .before .before .before .before .before .before .before .before .before .before .before .key-at .ensures) at (c .before .before .before .before .before .before .before .before .before .before .before .before .before .before .before .before .before .try-at .ensures) in
-    let v = rw (c .before .before .before .before .before .before .before .before .before .before .before .before .place-of2 .ensures, c .before .before .before .before .before .before .before .before .before .before .before .before .before .before .before .before .before .before .before .before .key-at .ensures) at (c .before .before .before .before .before .before .before .before .before .before .repeats-at .ensures) in
-    let r = rw (c .before .before .before .before .before .before .before .before .before .before .before .before .place-of2 .ensures, c .before .before .before .before .before .before .before .before .before .before .before .before .before .before .before .before .before .before .before .before .key-at .ensures) at (c .before .before .before .before .stay-or-list .ensures) in
+    let q = rw (c .before .before .before .before .before .before .before .before .before .before .before .before .before .enum-told3 .given .1, c .before .before .before .before .before .before .before .before .before .before .before .before .before .before .before .before .before .before .before .place-of .ensures, c .before .before .before .before .before .before .before .before .before .before .before .before .before .before .before .before .before .before .before .before .stirred .ensures, c .before .before .before .before .before .before .before .before .before .before .before .before .before .before .before .before .before .before .before .before .before .key-at .ensures) at (c .before .before .before .before .before .before .before .before .before .before .before .before .before .before .before .before .before .try-at .ensures) in
+    let v = rw (c .before .before .before .before .before .before .before .before .before .before .before .before .place-of2 .ensures, c .before .before .before .before .before .before .before .before .before .before .before .before .before .before .before .before .before .before .before .before .stirred .ensures, c .before .before .before .before .before .before .before .before .before .before .before .before .before .before .before .before .before .before .before .before .before .key-at .ensures) at (c .before .before .before .before .before .before .before .before .before .before .repeats-at .ensures) in
+    let r = rw (c .before .before .before .before .before .before .before .before .before .before .before .before .place-of2 .ensures, c .before .before .before .before .before .before .before .before .before .before .before .before .before .before .before .before .before .before .before .before .stirred .ensures, c .before .before .before .before .before .before .before .before .before .before .before .before .before .before .before .before .before .before .before .before .before .key-at .ensures) at (c .before .before .before .before .stay-or-list .ensures) in
     inr (by-second (q .0) (q .1) (v .differ (c .before .before .before .before .before .before .before .before .before .if1 .left)) r)
 
 pub try-both-spec : {M : Type 1} → statement M
 try-both-spec =
     tie.close
     (tie.spec
+    (λ c κs. search needs)
     (λ c κs. search needs)
     (λ c κs. search needs)
     try-at-requires
