@@ -2,7 +2,6 @@
 // repeats the record that has it; one that finds other keys at both is left in the list. All records with one key have the same places: so
 // of those that are left none repeats one that stayed, and they can be sifted anew by other places, until none is left.
 use crate::keys::Key;
-use crate::keys::MOST;
 use crate::keys::WORD;
 use crate::keys::key_at;
 use crate::keys::smaller;
@@ -135,11 +134,11 @@ fn stay_or_list(place: &mut [u16], spot: usize, i: usize, list: &mut [u16], left
     one_more(left, held)
 }
 
-// Whether to give up after t records: many are left early, so that it takes less time to sift all by other places. No answer depends on it.
-fn gives_up(left: usize, t: usize) -> bool
+// Whether to give up at record t: many are left early, so that it takes less time to sift all by other places. No answer depends on it.
+fn gives_up(left: usize, t: usize, limit: usize) -> bool
     ensures { λ _. ⊤ₛ }
 {
-    (64 < left) & (t < MOST / 3)
+    (16 < left) & (t < limit)
 }
 
 // What comes of a record: it repeats another; or too many are left; or so many are.
@@ -163,6 +162,7 @@ fn try_both(
     list: &mut [u16],
     left: usize,
     t: usize,
+    limit: usize,
 ) -> Step
     requires { ⌜ (widthOf key ≤ size) × (i < length (now records) / size) × (i < most) × (lower < word) × (upper < word)
         × (Held (length (now records) / size) (now place)) × (Held most (now place)) × (Places shift (now place))
@@ -187,7 +187,7 @@ fn try_both(
     if repeats_at(records, size, key, place, first, second, x) {
         return Step::Repeated;
     }
-    if gives_up(left, t) {
+    if gives_up(left, t, limit) {
         return Step::GivenUp;
     }
     Step::Left(stay_or_list(place, second, i, list, left))
@@ -206,6 +206,7 @@ fn sift_first(
     requires { ⌜ (Keyed key size (now records) n) × (n ≤ length (now list)) × (Places shift (now place)) × Zeros (now place) ⌝ }
     ensures { λ r. ⌜ (r .whole ≡ true → Sifts (keyAt key size (now (records .entry))) n n (λ u. u) (now (list .exit)) (r .found) (r .left)) ⌝ }
 {
+    let limit = n / 5;
     let mut left = 0;
     let mut i = 0;
     while i < n {
@@ -222,6 +223,7 @@ fn sift_first(
             list,
             left,
             i,
+            limit,
         ) {
             Step::Repeated => {
                 return Sifted {
@@ -287,6 +289,7 @@ fn sift_listed(
     ensures { λ r. ⌜ (r .whole ≡ true → Sifts (keyAt key size (now (records .entry))) n m (at (now (list .entry))) (now (list .exit))
         (r .found) (r .left)) ⌝ }
 {
+    let limit = m / 5;
     let mut left = 0;
     let mut t = 0;
     while t < m {
@@ -304,6 +307,7 @@ fn sift_listed(
             list,
             left,
             t,
+            limit,
         ) {
             Step::Repeated => {
                 return Sifted {

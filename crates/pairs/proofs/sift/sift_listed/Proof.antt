@@ -14,12 +14,12 @@ use Rattle.pairs.proofs.sift.sift_listed.Statement.{statement}
 use Rattle.pairs.proofs.sift.sift_listed.Tie as tie
 
 abbrev Inv-loop : tie.InvT-loop
-Inv-loop records size key n list₀ m lower upper place₀ shift left₀ t₀ list place left t =
+Inv-loop records size key n list₀ m lower upper place₀ shift limit left₀ t₀ list place left t =
     (t ≤ m) × (length list ≡ length list₀) × (length place ≡ length place₀)
     × Sifting (keyAt key size records) (λ b x. spotOf lower upper shift b (stirredBy true lower upper x)) (at list₀) true place list t left
 
 abbrev μ-loop : tie.MeasureT-loop
-μ-loop records size key n list₀ m lower upper place₀ shift left₀ t₀ list place left t = m - t
+μ-loop records size key n list₀ m lower upper place₀ shift limit left₀ t₀ list place left t = m - t
 
 loop-holds : tie.Need-loop-holds Inv-loop μ-loop
 loop-holds c = (omega arith, refl, refl, sifting-start (c .before .before .before .pre .5))
