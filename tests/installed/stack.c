@@ -1,7 +1,7 @@
 /*
  * Measures how much stack each call takes: in a thread, the stack below the call is painted, the call is made, and the deepest
- * byte that changed is looked for. The files are full ones, whole, with a fault for each check, and with positions that have to
- * be put in order. Fails where a call takes more than CITRONREEF_STACK_KIB.
+ * byte that changed is looked for. The files are full ones, whole, with a fault for each check, and with positions of which many
+ * are sifted anew. Fails where a call takes more than CITRONREEF_STACK_KIB.
  */
 #include "citronreef.h"
 #include <pthread.h>
@@ -110,7 +110,7 @@ static void full_file(void)
 
 /*
  * Gives the positions from one on other accounts. Where the library sifts them, both places of each are in the first 64th, and few
- * stay. Where it is the first, all positions are put in order; where it is the middle one, those that are left.
+ * stay. Where it is the first, all positions are sifted anew; where it is the middle one, those that are left.
  */
 static void crowd(uint32_t from)
 {

@@ -152,7 +152,7 @@ fn crowded_account(numbers: &mut impl Iterator<Item = u32>, mark: u32) -> u32 {
     accounts.find(|&account| second(account) < CROWD).expect("there are more numbers than positions need")
 }
 
-/// Both places of each position are in the first 64th, so that few positions stay, and all are put in order.
+/// Both places of each position are in the first 64th, so that few positions stay, and all are sifted by other factors.
 fn with_both_places(mut day: Day) -> Day {
     let mut numbers = crowd(0);
     for position in &mut day.positions {

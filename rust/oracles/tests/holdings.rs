@@ -217,7 +217,7 @@ fn assert_first(answer: fn(&Day) -> Option<usize>, holdings: &[Holding]) {
     }
 }
 
-/// Few stay, and the order of the keys decides: of all, or in a short list of those that are left.
+/// Few stay: all are sifted anew by other factors, or in a short list those that are left.
 #[test]
 fn both_places_crowded() {
     for crowded in [1 << 22, 1 << 26].map(crowded) {
@@ -227,8 +227,8 @@ fn both_places_crowded() {
     }
 }
 
-/// Ordinary positions stay, between crowded ones or before them. The more there are, the fewer are left: all are put in
-/// order, early or when the list is full; or those that are left are; or these are few and are sifted anew.
+/// Ordinary positions stay, between crowded ones or before them. The more there are, the fewer are left, and the later:
+/// all are sifted anew where many are left early; or those that are left are, where these are few by fewer places.
 #[test]
 fn crowded_among_ordinary() {
     for crowded in [1 << 22, 1 << 26].map(crowded) {
@@ -241,17 +241,20 @@ fn crowded_among_ordinary() {
     }
 }
 
-/// Both factors together, after so many times anew.
-fn factors_anew(times: u32) -> u32 {
-    let [lower, upper] = [ANEW, LOWER].map(|factor| factor.wrapping_pow(times));
-    LOWER.wrapping_mul(lower).wrapping_add(UPPER.wrapping_mul(upper))
+/// The numbers that the two places of a position go by, where it is sifted anew for so many times.
+fn numbers_anew((account, mark, _): Holding, times: u32) -> [u32; 2] {
+    let lower = LOWER.wrapping_mul(ANEW.wrapping_pow(times));
+    let upper = UPPER.wrapping_mul(LOWER.wrapping_pow(times));
+    let product = u64::from(account.wrapping_add(lower)) * u64::from(mark.wrapping_add(upper));
+    let (low, high) = (product as u32, (product >> 32) as u32);
+    [(lower, upper), (upper, lower)].map(|(a, b)| low.wrapping_mul(a).wrapping_add(high.wrapping_mul(b)))
 }
 
-/// The last quarter is crowded in every sifting: few are left of the first, and of these few stay in the next two.
+/// The last quarter is crowded in the first three siftings: few of it stay there, where many are left early or late.
 #[test]
 fn crowded_anew() {
-    let is_crowded = |account: u32, times| account.wrapping_mul(factors_anew(times)) < 1 << 27;
-    let is_left = |&(account, _, _): &Holding| is_crowded(account, 1) && is_crowded(account, 2);
+    let is_crowded = |holding, times| numbers_anew(holding, times).iter().all(|&number| number < 1 << 29);
+    let is_left = |&holding: &Holding| is_crowded(holding, 1) && is_crowded(holding, 2);
     let crowded: Vec<Holding> = (0..).map(at_one_place).filter(is_left).take(MAX_POSITIONS).collect();
     for count in SIZES {
         assert_first(found, &mixed(&crowded[..count], |index| index < count * 3 / 4));
@@ -267,13 +270,17 @@ fn agreeing() -> Vec<Holding> {
 
 /// Marks that no file has, up to the highest number: 12 refuses them, and 16 is found by itself. Account and mark
 /// together have more than forty bits. All have one first place, or up to sixteen have and up to 256 agree in their
-/// lower forty bits; then the same with both places.
+/// lower forty bits; then the same with both places. In pairs or in a square, they differ in the highest bits of account
+/// and mark alone.
 #[test]
 fn marks_of_all_sizes() {
     let list = |holding: fn(u32) -> Holding| (0..MAX_POSITIONS as u32).map(holding).collect::<Vec<_>>();
     let scattered = list(|index| at_place(0, index.wrapping_mul(2_246_822_519)));
     let at_sixteen = list(|index| (at_place(index / 256 << 12, 0).0, index % 256 << 24, 1));
-    for holdings in [scattered, at_sixteen, list(at_one_place), agreeing()] {
+    let in_pairs =
+        list(|index| ((index / 2).wrapping_mul(LOWER) ^ index << 31, (index / 2).wrapping_mul(LOWER) ^ index << 31, 1));
+    let in_a_square = list(|index| (12_345 + (index / 64 << 26), index % 64 << 26, 1));
+    for holdings in [scattered, at_sixteen, list(at_one_place), agreeing(), in_pairs, in_a_square] {
         for count in SIZES {
             let whole = day_with(1, &holdings[..count]);
             assert_eq!((refused(&whole, count), find(&whole.bytes(), 16)), (Some((12, 1)), None));
