@@ -14,6 +14,7 @@ import re
 from functools import lru_cache
 from pathlib import Path
 
+from edits import QUICK, WHOLE
 from require import require
 
 ROOT = Path(__file__).resolve().parent.parent
@@ -26,7 +27,7 @@ ELSEWHERE = ("target/", "lib/", "bin/", "share/", "/", "-")  # paths of what is 
 COMMANDS = {"explain", "make", "sheet", "show"}  # of citronreef
 # Words that cite nothing of the repository: pieces of notation, names of other programs and languages. Nor do figures.
 WORDS = set(
-    """ensures|requires|must-fail|lib.rt|a before b|i ≡ 0|r ≡ ..|said r ≡ ..|now r ≡ ..|now (a .exit) ≡ ..|refused 7 at 0
+    """ensures|requires|must-fail|must-fail-quick|lib.rt|a before b|i ≡ 0|r ≡ ..|said r ≡ ..|now r ≡ ..|now (a .exit) ≡ ..|refused 7 at 0
     |refused,NUMBER,INDEX,WORDS|950100u|@i|ir|make --anyway|Decimal|std::vector|citronreef_|memset|io|os|libc|rt|N passed, 0 failed
     |position 1001 XT/3/27 -40""".replace("\n    ", "").split("|")
 )
@@ -231,7 +232,7 @@ class Reader:
         elif word.startswith(("bash ", "python3 ", "rt ")):
             need(word.startswith("rt ") or (ROOT / word.split()[1]).is_file(), "there is a script", word)
         elif self.is_edit(k):
-            files = [CRATES[crate] / "must-fail" / f"{word}.edit" for crate in self.crates or CRATES]
+            files = [CRATES[crate] / folder / f"{word}.edit" for crate in self.crates or CRATES for folder in (WHOLE, QUICK)]
             need(any(path.exists() for path in files), "there is an edit", word)
         elif PATH.fullmatch(word):
             self.read_path(word)
