@@ -4,4 +4,6 @@ pub mod Records
 mod Rooms
 mod Trees
 mod Listing
+mod Spots
 mod Sifted
+mod Turns

@@ -4,23 +4,22 @@ use mathlib.Core.Path.{_≡_, refl, sym, ap, _∙_}
 use mathlib.Core.Bool.{Bool, true, false, false≢true, cond}
 use mathlib.Core.List.{List}
 use mathlib.Core.Logic.{_⊎_, inl, inr, ⊎-elim}
-use Prim.Native.Nat.{ℕ, zero, suc, _+_, _-_, _*_, _/_, _%_, _≤_, _<_, _^_}
-use native.Mathlib.Nat.{eq-or-lt-of-le, le-trans, lt-of-lt-of-le, div-lt-iff-lt-mul}
+use Prim.Native.Nat.{ℕ, zero, suc, _+_, _/_, _≤_, _<_}
+use native.Mathlib.Nat.{eq-or-lt-of-le, le-trans}
 use native.Mathlib.Decide.{decLt}
 use native.Mathlib.Omega.{arith}
 use lib.Dec.{leb, eqb}
 use native.Mathlib.Numerals.{add-one}
-use lib.ListN.{length, getD, set, replicate, length-replicate}
+use lib.ListN.{length, getD, set}
 use lib.Seq.{getD-set-same, getD-set-other, set-getD}
-use lib.Pow.{pow-pos}
-use borrow.Author.Tests.{leb-true, leb-false, ne-eqb}
-use Rattle.numbers.specs.Folds.{Filled}
-use Rattle.pairs.specs.Keys.{word, least}
+use borrow.Author.Tests.{ne-eqb}
+use Rattle.pairs.specs.Keys.{least}
 use Rattle.pairs.specs.Walks.{Keyed}
-use Rattle.pairs.specs.Indices.{at, Hit, Repeats, FirstOf, Rising, indexAt}
-use Rattle.pairs.specs.Sifting.{placeOf, Places, Held, Holds, Another, Comes, kept, more, First, Second, Sifts}
+use Rattle.pairs.specs.Indices.{at, Hit, Repeats, FirstOf, Rising}
+use Rattle.pairs.specs.Sifting.{Held, Holds, Another, kept, more, First, Second, Sifts}
 use Rattle.pairs.specs.declared.keys.Key.{Key}
-use Rattle.pairs.proofs.Least.{least-first, least-second, least-below-first, least-below-second}
+use Rattle.pairs.proofs.Least.{least-below-first, least-below-second}
+use Rattle.pairs.proofs.Spots.{another-set}
 use Rattle.pairs.proofs.Trees.{after-set}
 
 -- record i is at the first place of its key, or at the second, and then another key is at the first
@@ -29,47 +28,21 @@ pub record Stays (key : ℕ → ℕ) (spot : Bool → ℕ → ℕ) (places : Lis
   pub there : getD places (spot second (key i)) 0 ≡ suc i
   pub passed : second ≡ true → Another key places (spot false (key i)) (key i)
 
--- the two places of a key: the factors change their parts
-abbrev pub spotOf : ℕ → ℕ → ℕ → Bool → ℕ → ℕ
-spotOf lower upper shift second x = cond second (placeOf upper lower shift x) (placeOf lower upper shift x)
-
-pub record Sifting (key : ℕ → ℕ) (spot : Bool → ℕ → ℕ) (before : ℕ → ℕ) (listed : Bool) (places after : List ℕ) (t left : ℕ) : Type 0 where
+pub record Sifting (key : ℕ → ℕ) (spot : Bool → ℕ → ℕ) (before : ℕ → ℕ) (places after : List ℕ) (t left : ℕ) : Type 0 where
   pub fewer : left ≤ t
-  pub tail : (u : ℕ) → t ≤ u → indexAt listed after u ≡ before u
   pub held : (a h : ℕ) → getD places a 0 ≡ suc h → Hit before t h
   pub leaves : (u : ℕ) → u < left → Hit before t (at after u)
   pub rising : (u v : ℕ) → u < v → v < left → at after u < at after v
   pub passed : (u : ℕ) → u < left → (b : Bool) → Another key places (spot b (key (at after u))) (key (at after u))
   pub stays : (i : ℕ) → Hit before t i → Stays key spot places i ⊎ Hit (at after) left i
 
--- a place is one of the list's
-pub place-below : (lower upper x : ℕ) {shift n : ℕ} {list : List ℕ} → Places shift list → n ≡ length list → placeOf lower upper shift x < n
-unfolding placeOf
-place-below lower upper x {shift} p all = rw all (div-lt-iff-lt-mul (pow-pos shift) .1 (lt-of-lt-of-le below (p .room)))
-  where
-    below : (x % word * lower % word + x / word * upper % word) % word < word
-    below = omega arith
-
-pub spot-below : (lower upper x : ℕ) {shift n : ℕ} {list : List ℕ} → Places shift list → n ≡ length list → (b : Bool) → spotOf lower upper shift b x < n
-spot-below lower upper x p all true = place-below upper lower x p all
-spot-below lower upper x p all false = place-below lower upper x p all
-
--- places that are all empty
-pub places-in : (shift places : ℕ) → shift < 64 → word ≤ places * 2 ^ shift → Places shift (replicate places 0)
-places-in shift places short room = let z : ℕ = 0 in record { short = short; room = rw (length-replicate places z) room }
-
--- as many places as before
-pub places-as : {shift : ℕ} {list now : List ℕ} → length now ≡ length list → Places shift list → Places shift now
-places-as q p = record { short = p .short; room = rw q (p .room) }
-
 -- ---- lists that are not sifted yet
 
-module _ {key : ℕ → ℕ} {spot : Bool → ℕ → ℕ} {listed : Bool} {places list : List ℕ} where
-  pub sifting-start : ((a : ℕ) → getD places a 0 ≡ 0) → Sifting key spot (indexAt listed list) listed places list 0 0
+module _ {key : ℕ → ℕ} {spot : Bool → ℕ → ℕ} {before : ℕ → ℕ} {places list : List ℕ} where
+  pub sifting-start : ((a : ℕ) → getD places a 0 ≡ 0) → Sifting key spot before places list 0 0
   sifting-start z =
       record {
         fewer = omega arith;
-        tail = λ u h. refl;
         held = λ a h p. absurd (omega (arith, z a, p));
         leaves = λ u h. absurd (omega arith);
         rising = λ u v h k. absurd (omega arith);
@@ -100,41 +73,15 @@ hit-set list k x {i} l a =
       is = after-set (λ (z : ℕ). z ≡ i) list k (a .place) x 0 l (λ e. absurd (omega (arith, a .below, e))) (λ e. a .is);
     }
 
--- ---- places
-
--- what is read at a place that is not empty is the number of a record and one
-pub holder : {w x : ℕ} → w ≡ x → (w ≡ 0 → ⊥) → x ≡ suc (w - 1)
-holder is full = omega (arith, is, full)
-
-pub another : {key : ℕ → ℕ} {places : List ℕ} {a x h : ℕ} → getD places a 0 ≡ suc h → (key h ≡ x → ⊥) → Another key places a x
-another {key} {places} {a} {x} {h} is other =
-    record {
-      full = λ p. omega (arith, p, is);
-      differ = λ g p q. let same : g ≡ h = omega (arith, p, is) in other (ap key (sym same) ∙ q);
-    }
-
--- it stays so where a record comes to an empty place
-another-set : {key : ℕ → ℕ} (places : List ℕ) (e v : ℕ) {a x : ℕ} → e < length places → getD places e 0 ≡ 0 → Another key places a x
-    → Another key (set places e v) a x
-another-set {key} places e v {a} {x} l empty w =
-    record {
-      full = after-set (λ (z : ℕ). z ≡ 0 → ⊥) places e a v 0 l (λ q. absurd (w .full (ap (λ k. getD places k 0) q ∙ empty))) (λ q. w .full);
-      differ = λ h.
-          after-set (λ (z : ℕ). z ≡ suc h → key h ≡ x → ⊥) places e a v 0 l
-          (λ q. absurd (w .full (ap (λ k. getD places k 0) q ∙ empty)))
-          (λ q. w .differ h);
-    }
-
-module _ {key : ℕ → ℕ} {spot : Bool → ℕ → ℕ} {before : ℕ → ℕ} {listed : Bool} {places list : List ℕ} {t left : ℕ}
-    (s : Sifting key spot before listed places list t left) where
+module _ {key : ℕ → ℕ} {spot : Bool → ℕ → ℕ} {before : ℕ → ℕ} {places list : List ℕ} {t left : ℕ}
+    (s : Sifting key spot before places list t left) where
   -- the record that is looked at has a place for itself, and stays
   stay : (b : Bool) {i e : ℕ} → i ≡ before t → e ≡ spot b (key i) → getD places e 0 ≡ 0 → e < length places
       → (b ≡ true → Another key places (spot false (key i)) (key i))
-      → Sifting key spot before listed (set places e (i + 1)) list (t + 1) left
+      → Sifting key spot before (set places e (i + 1)) list (t + 1) left
   stay b {i} {e} is spot-is empty l first =
       record {
         fewer = omega (arith, s .fewer);
-        tail = λ u h. s .tail u (omega arith);
         held = λ a h.
             after-set (λ (z : ℕ). z ≡ suc h → Hit before (t + 1) h) places e a (i + 1) 0 l
             (λ q p. let same : i ≡ h = omega (arith, p) in rw (sym same, is) (hit-last before t))
@@ -168,11 +115,10 @@ module _ {key : ℕ → ℕ} {spot : Bool → ℕ → ℕ} {before : ℕ → ℕ
 
   -- it has found other keys at both places, and is left
   leave : {i : ℕ} → i ≡ before t → Another key places (spot false (key i)) (key i) → Another key places (spot true (key i)) (key i)
-      → left < length list → ((u : ℕ) → u < t → before u < before t) → Sifting key spot before listed places (set list left i) (t + 1) (left + 1)
+      → left < length list → ((u : ℕ) → u < t → before u < before t) → Sifting key spot before places (set list left i) (t + 1) (left + 1)
   leave {i} is first second l up =
       record {
         fewer = omega (arith, s .fewer);
-        tail = λ u k. beyond listed u (λ q. omega (arith, s .fewer, q)) ∙ s .tail u (omega arith);
         held = λ a g p. hit-more (s .held a g p);
         leaves = λ u k. by-end (λ v. Hit before (t + 1) (at (set list left i) v)) u k
             (rw (now-there, is) (hit-last before t))
@@ -202,10 +148,6 @@ module _ {key : ℕ → ℕ} {spot : Bool → ℕ → ℕ} {before : ℕ → ℕ
       as-was : (u : ℕ) → (u ≡ left → ⊥) → at (set list left i) u ≡ at list u
       as-was u q = getD-set-other list left u i 0 q
 
-      beyond : (b : Bool) (u : ℕ) → (u ≡ left → ⊥) → indexAt b (set list left i) u ≡ indexAt b list u
-      beyond true u q = as-was u q
-      beyond false u q = refl
-
       lower : (u : ℕ) → u < left → at list u < before t
       lower u k = let b = s .leaves u k in rw (sym (b .is)) (up (b .place) (b .below))
 
@@ -213,7 +155,7 @@ module _ {key : ℕ → ℕ} {spot : Bool → ℕ → ℕ} {before : ℕ → ℕ
       by-end P u k a b = ⊎-elim (λ (q : u ≡ left). rw q a) b (eq-or-lt-of-le (omega arith))
 
   -- the places are as they were
-  pub as-was : {now : List ℕ} → now ≡ places → Sifting key spot before listed now list t left
+  pub as-was : {now : List ℕ} → now ≡ places → Sifting key spot before now list t left
   as-was q = rw q s
 
   -- the places have records that were looked at
@@ -228,11 +170,10 @@ module _ {key : ℕ → ℕ} {spot : Bool → ℕ → ℕ} {before : ℕ → ℕ
   held-of w r h e = le-trans (held-few r h e) (w .whole)
 
   -- an entry after those that are left may be anything
-  scribbled : (v : ℕ) → left < t → Sifting key spot before listed places (set list left v) t left
+  scribbled : (v : ℕ) → left < t → Sifting key spot before places (set list left v) t left
   scribbled v h =
       record {
         fewer = s .fewer;
-        tail = λ u k. beyond listed u (λ q. omega (arith, q, h, k)) ∙ s .tail u k;
         held = s .held;
         leaves = λ u k. rw (as-it-was u k) (s .leaves u k);
         rising = λ u w k l. rw (as-it-was u (omega arith), as-it-was w l) (s .rising u w k l);
@@ -242,10 +183,6 @@ module _ {key : ℕ → ℕ} {spot : Bool → ℕ → ℕ} {before : ℕ → ℕ
     where
       as-it-was : (u : ℕ) → u < left → at (set list left v) u ≡ at list u
       as-it-was u k = getD-set-other list left u v 0 (λ q. omega (arith, q))
-
-      beyond : (b : Bool) (u : ℕ) → (u ≡ left → ⊥) → indexAt b (set list left v) u ≡ indexAt b list u
-      beyond true u q = getD-set-other list left u v 0 q
-      beyond false u q = refl
 
   -- where one with a key stays none with the same is left
   stays-alone : (i j : ℕ) → Stays key spot places i → Hit (at list) left j → key i ≡ key j → ⊥
@@ -342,18 +279,18 @@ module _ {key : ℕ → ℕ} {spot : Bool → ℕ → ℕ} {before : ℕ → ℕ
 
 -- ---- one record more
 
-module _ {key : ℕ → ℕ} {spot : Bool → ℕ → ℕ} {before : ℕ → ℕ} {listed : Bool} {places list : List ℕ} {t left : ℕ}
-    (s : Sifting key spot before listed places list t left) {i : ℕ} (is : i ≡ before t) {places′ list′ : List ℕ} {left′ : ℕ} where
+module _ {key : ℕ → ℕ} {spot : Bool → ℕ → ℕ} {before : ℕ → ℕ} {places list : List ℕ} {t left : ℕ}
+    (s : Sifting key spot before places list t left) {i : ℕ} (is : i ≡ before t) {places′ list′ : List ℕ} {left′ : ℕ} where
   -- it stays at its first place, or at its second, or is left
   pub tried : ((b : Bool) → spot b (key i) < length places) → left < length list → ((u : ℕ) → u < t → before u < before t)
       → First (spot false (key i)) places list left i places′ list′ left′
       ⊎ Second key (spot false (key i)) (spot true (key i)) places list left i places′ list′ left′
-      → Sifting key spot before listed places′ list′ (t + 1) left′
+      → Sifting key spot before places′ list′ (t + 1) left′
   tried l room up (inl w) = rw (w .comes .is, w .entry, w .count) (stay s false is refl (w .comes .empty) (l false) (λ q. absurd (false≢true q)))
   tried l room up (inr w) = rw (w .puts .place, w .puts .entry, w .puts .count) (go (getD places (spot true (key i)) 0) refl)
     where
       go : (held : ℕ) → getD places (spot true (key i)) 0 ≡ held
-          → Sifting key spot before listed (set places (spot true (key i)) (kept held (i + 1))) (set list left i) (t + 1) (more left held)
+          → Sifting key spot before (set places (spot true (key i)) (kept held (i + 1))) (set list left i) (t + 1) (more left held)
       go zero p = scribbled (stay s true is refl p (l true) (λ q. w .first)) i (omega (arith, s .fewer))
       go (suc h) p =
           let taken : eqb (suc h) 0 ≡ false = ne-eqb (suc h) 0 (λ q. omega (arith, q)) in
@@ -361,43 +298,12 @@ module _ {key : ℕ → ℕ} {spot : Bool → ℕ → ℕ} {before : ℕ → ℕ
           ap (λ k. set places (spot true (key i)) k) (sym p) ∙ set-getD places (spot true (key i)) 0 in
           rw (taken, same) (leave s is (w .first) (w .second (λ q. omega (arith, p, q))) room up)
 
--- ---- sifted anew
+-- the list's entries from t on are as they were
+abbrev pub Ahead : (ℕ → ℕ) → List ℕ → ℕ → Type 0
+Ahead before list t = (u : ℕ) → t ≤ u → at list u ≡ before u
 
-least-least : (o a b : ℕ) → least (least o a) b ≡ least o (least a b)
-least-least o a b = go (leb o a) (leb a b) refl refl
-  where
-    go : (x y : Bool) → leb o a ≡ x → leb a b ≡ y → least (cond x o a) b ≡ least o (cond y a b)
-    go true true p q = let h = leb-true o a p in let k = leb-true a b q in sym (least-first o b (omega arith)) ∙ least-first o a h
-    go true false p q = refl
-    go false true p q = let h = leb-false o a p in let k = leb-true a b q in sym (least-first a b k) ∙ least-second o a (omega arith)
-    go false false p q = let h = leb-false o a p in let k = leb-false a b q in sym (least-second a b (omega arith)) ∙ least-second o b (omega arith)
-
-pub sifts-sifts : {key before : ℕ → ℕ} {n m k left a b : ℕ} {mid after : List ℕ}
-    → Sifts key n m before mid a k → Sifts key n k (at mid) after b left → Sifts key n m before after (least b a) left
-sifts-sifts {left = left} {a = a} {b = b} s r =
-    record { fewer = omega (arith, s .fewer, r .fewer); listed = r .listed; answers = λ o w. rw (sym (least-least o b a)) (s .answers (least o b) (r .answers o w)) }
-
--- all records are listed: none is sifted yet
-pub sifts-none : {key : ℕ → ℕ} {n : ℕ} {list : List ℕ} → Filled 0 (λ u. u) n list → Sifts key n n (λ u. u) list n n
-sifts-none {key} {n} {list} w =
-    record {
-      fewer = omega arith;
-      listed = record {
-        below = λ u h. rw (w .entry u h) h;
-        rising = λ u v h k. rw (w .entry u (omega arith), w .entry v k) h;
-      };
-      answers = λ o a. rw (sym (least-first o n (a .within)))
-          (record {
-            within = a .within;
-            repeats = λ h.
-                let r = a .repeats h in
-                record { listed = as-listed (r .listed); other = r .other; listed-too = as-listed (r .listed-too); lower = r .lower; same = r .same };
-            lowest = λ j k p q l e. a .lowest j k (in-list p) (in-list q) l e;
-          });
-    }
-  where
-    as-listed : {i : ℕ} → Hit (at list) n i → Hit (λ (u : ℕ). u) n i
-    as-listed a = record { place = a .place; below = a .below; is = sym (w .entry (a .place) (a .below)) ∙ a .is }
-
-    in-list : {i : ℕ} → Hit (λ (u : ℕ). u) n i → Hit (at list) n i
-    in-list a = record { place = a .place; below = a .below; is = w .entry (a .place) (a .below) ∙ a .is }
+pub ahead : {key before : ℕ → ℕ} {a b t left i left′ : ℕ} {places list places′ list′ : List ℕ} → left ≤ t → Ahead before list t
+    → First a places list left i places′ list′ left′ ⊎ Second key a b places list left i places′ list′ left′ → Ahead before list′ (t + 1)
+ahead few w (inl p) u h = ap (λ l. at l u) (p .entry) ∙ w u (omega arith)
+ahead {left = left} {i = i} {list = list} few w (inr p) u h =
+    ap (λ l. at l u) (p .puts .entry) ∙ getD-set-other list left u i 0 (λ q. omega (arith, q)) ∙ w u (omega arith)

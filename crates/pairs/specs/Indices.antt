@@ -2,7 +2,6 @@
 -- rests on this.
 use Prim.Native.Nat.{ℕ, _≤_, _<_}
 use mathlib.Core.Path.{_≡_}
-use mathlib.Core.Bool.{Bool, true, cond}
 use mathlib.Core.List.{List}
 use lib.ListN.{getD}
 
@@ -34,7 +33,3 @@ pub record FirstOf (key f : ℕ → ℕ) (n m i : ℕ) : Type 0 where
 pub record Rising (n m : ℕ) (f : ℕ → ℕ) : Type 0 where
   pub below : (u : ℕ) → u < m → f u < n
   pub rising : (u v : ℕ) → u < v → v < m → f u < f v
-
--- the entry of a list, or without one the index itself
-abbrev pub indexAt : Bool → List ℕ → ℕ → ℕ
-indexAt listed list u = cond listed (at list u) u

@@ -10,10 +10,10 @@ use Rattle.numbers.specs.declared.Found.{Found}
 use Rattle.numbers.specs.declared.Found.the-variants.{At, Nothing}
 use Rattle.pairs.specs.Keys.{word, least}
 use Rattle.pairs.specs.Indices.{at, FirstOf, Rising}
-use Rattle.pairs.specs.declared.sift.Placed.{Placed}
-use Rattle.pairs.specs.declared.sift.Placed.the-variants.{Stays, Repeats, Differs}
-use Rattle.pairs.specs.declared.sift.Step.{Step}
-use Rattle.pairs.specs.declared.sift.Step.the-variants.{Repeated, GivenUp, Left}
+use Rattle.pairs.specs.declared.places.Placed.{Placed}
+use Rattle.pairs.specs.declared.places.Placed.the-variants.{Stays, Repeats, Differs}
+use Rattle.pairs.specs.declared.places.Step.{Step}
+use Rattle.pairs.specs.declared.places.Step.the-variants.{Repeated, GivenUp, Left}
 use Rattle.pairs.specs.declared.first.Tried.{Tried}
 use Rattle.pairs.specs.declared.first.Tried.the-variants.{Answered, Unanswered}
 

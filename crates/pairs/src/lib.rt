@@ -4,6 +4,7 @@ mod first;
 mod keys;
 mod lists;
 mod pairwise;
+mod places;
 mod sift;
 mod walks;
 

@@ -1,7 +1,7 @@
 -- Eight places for each record start empty.
 use lib.Dec.{lit≤}
 use Rattle.pairs.proofs.Trees.{zeros}
-use Rattle.pairs.proofs.Sifted.{places-in}
+use Rattle.pairs.proofs.Spots.{places-in}
 use borrow.Author.Needs.{needs}
 use Rattle.pairs.proofs.first.first_short.Statement.{statement}
 use Rattle.pairs.proofs.first.first_short.Tie as tie

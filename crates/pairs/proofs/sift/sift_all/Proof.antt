@@ -9,7 +9,8 @@ use borrow.Author.Tests.{ltb-true}
 use Rattle.numbers.proofs.Truth.{and-left}
 use Rattle.pairs.specs.Keys.{keyAt, word}
 use Rattle.pairs.specs.Sifting.{Sifts}
-use Rattle.pairs.proofs.Sifted.{places-as, sifts-sifts}
+use Rattle.pairs.proofs.Spots.{places-as}
+use Rattle.pairs.proofs.Turns.{sifts-sifts}
 use borrow.Author.Needs.{needs}
 use Rattle.pairs.proofs.sift.sift_all.Statement.{statement}
 use Rattle.pairs.proofs.sift.sift_all.Tie as tie

@@ -1,5 +1,5 @@
 -- Places that are cleared are empty.
-use Rattle.pairs.proofs.Sifted.{places-as}
+use Rattle.pairs.proofs.Spots.{places-as}
 use borrow.Author.Needs.{needs}
 use Rattle.pairs.proofs.sift.sift_anew.Statement.{statement}
 use Rattle.pairs.proofs.sift.sift_anew.Tie as tie

@@ -8,18 +8,19 @@ use lib.ListN.{length}
 use Rattle.pairs.specs.Keys.{keyAt}
 use Rattle.pairs.specs.Indices.{at}
 use Rattle.pairs.specs.Sifting.{stirredBy}
-use Rattle.pairs.proofs.Sifted.{Sifting, spotOf, spot-below, places-as, sifting-start, held-few, as-was, tried, sifted-found, sifted-all}
+use Rattle.pairs.proofs.Spots.{spotOf, spot-below, places-as}
+use Rattle.pairs.proofs.Sifted.{Sifting, sifting-start, held-few, tried, sifted-found, sifted-all}
 use borrow.Author.Needs.{needs}
 use Rattle.pairs.proofs.sift.sift_first.Statement.{statement}
 use Rattle.pairs.proofs.sift.sift_first.Tie as tie
 
 abbrev Inv-loop : tie.InvT-loop
-Inv-loop records size key n list₀ place₀ shift limit left₀ i₀ list place left i =
+Inv-loop records size key n list₀ place₀ shift left₀ i₀ list place left i =
     (i ≤ n) × (length list ≡ length list₀) × (length place ≡ length place₀)
-    × Sifting (keyAt key size records) (spotOf 2_654_435_761 1_973_900_851 shift) (λ u. u) false place list i left
+    × Sifting (keyAt key size records) (spotOf 2_654_435_761 1_973_900_851 shift) (λ u. u) place list i left
 
 abbrev μ-loop : tie.MeasureT-loop
-μ-loop records size key n list₀ place₀ shift limit left₀ i₀ list place left i = n - i
+μ-loop records size key n list₀ place₀ shift left₀ i₀ list place left i = n - i
 
 loop-holds : tie.Need-loop-holds Inv-loop μ-loop
 loop-holds c = (omega arith, refl, refl, sifting-start (c .before .before .before .pre .3))

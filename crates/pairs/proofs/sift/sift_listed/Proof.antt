@@ -8,28 +8,29 @@ use lib.ListN.{length}
 use Rattle.pairs.specs.Keys.{keyAt}
 use Rattle.pairs.specs.Indices.{at}
 use Rattle.pairs.specs.Sifting.{stirredBy}
-use Rattle.pairs.proofs.Sifted.{Sifting, spotOf, spot-below, places-as, sifting-start, held-few, as-was, tried, sifted-found, sifted-all}
+use Rattle.pairs.proofs.Spots.{spotOf, spot-below, places-as}
+use Rattle.pairs.proofs.Sifted.{Sifting, sifting-start, held-few, tried, sifted-found, sifted-all, Ahead, ahead}
 use borrow.Author.Needs.{needs}
 use Rattle.pairs.proofs.sift.sift_listed.Statement.{statement}
 use Rattle.pairs.proofs.sift.sift_listed.Tie as tie
 
 abbrev Inv-loop : tie.InvT-loop
-Inv-loop records size key n list₀ m lower upper place₀ shift limit left₀ t₀ list place left t =
+Inv-loop records size key n list₀ m lower upper place₀ shift left₀ t₀ list place left t =
     (t ≤ m) × (length list ≡ length list₀) × (length place ≡ length place₀)
-    × Sifting (keyAt key size records) (λ b x. spotOf lower upper shift b (stirredBy true lower upper x)) (at list₀) true place list t left
+    × Sifting (keyAt key size records) (λ b x. spotOf lower upper shift b (stirredBy true lower upper x)) (at list₀) place list t left × Ahead (at list₀) list t
 
 abbrev μ-loop : tie.MeasureT-loop
-μ-loop records size key n list₀ m lower upper place₀ shift limit left₀ t₀ list place left t = m - t
+μ-loop records size key n list₀ m lower upper place₀ shift left₀ t₀ list place left t = m - t
 
 loop-holds : tie.Need-loop-holds Inv-loop μ-loop
-loop-holds c = (omega arith, refl, refl, sifting-start (c .before .before .before .pre .5))
+loop-holds c = (omega arith, refl, refl, sifting-start (c .before .before .before .pre .5), λ u h. refl)
 
 try-both-requires : tie.Need-try-both-requires Inv-loop μ-loop
 try-both-requires c κs =
     let p = c .before .before .before .before .before .before .before .before .before .pre in
     let l = c .before .before .before .before .before .loop in
     let h = c .before .before .before .before .loop-test .taken in
-    let is = c .before .before .wide .ensures ∙ l .inv .3 .tail (l .t) (omega arith) in
+    let is = c .before .before .wide .ensures ∙ l .inv .4 (l .t) (omega arith) in
     let k = p .1 .below _ h in (
       p .0 .wide (omega (arith, k)),
       omega (arith, p .0 .whole, k, is),
@@ -48,7 +49,7 @@ returns c =
     let p = c .before .before .before .before .before .before .before .before .before .before .before .before .before .before .before .before .pre in
     let l = c .before .before .before .before .before .before .before .before .before .before .before .before .loop in
     let h = c .before .before .before .before .before .before .before .before .before .before .before .loop-test .taken in
-    let is = c .before .before .before .before .before .before .before .before .before .wide .ensures ∙ l .inv .3 .tail (l .t) (omega arith) in
+    let is = c .before .before .before .before .before .before .before .before .before .wide .ensures ∙ l .inv .4 (l .t) (omega arith) in
     let q = rw (c .enum-told .given .1) at (c .before .before .before .before .before .before .try-both .ensures) in
     λ _. rw (q .1) (sifted-found (l .inv .3) (p .1 .rising) (p .1 .below) h is refl (q .2))
 
@@ -60,12 +61,13 @@ loop-again c =
     let p = c .before .before .before .before .before .before .before .before .before .before .before .before .before .before .before .before .before .pre in
     let l = c .before .before .before .before .before .before .before .before .before .before .before .before .before .loop in
     let h = c .before .before .before .before .before .before .before .before .before .before .before .before .loop-test .taken in
-    let is = c .before .before .before .before .before .before .before .before .before .before .wide .ensures ∙ l .inv .3 .tail (l .t) (omega arith) in
+    let is = c .before .before .before .before .before .before .before .before .before .before .wide .ensures ∙ l .inv .4 (l .t) (omega arith) in
     let q = rw (c .before .more .given .1) at (c .before .before .before .before .before .before .before .try-both .ensures) in (
       omega (arith, h),
       c .before .before .before .before .list .given ∙ l .inv .1,
       c .before .before .before .before .before .before .place .given ∙ l .inv .2,
       tried (l .inv .3) is (spot-below _ _ _ (p .4) (l .inv .2)) (omega (arith, p .2, h, l .inv .1, l .inv .3 .fewer)) (λ u k. p .1 .rising u (l .t) k h) q,
+      ahead (l .inv .3 .fewer) (l .inv .4) q,
     )
 
 returns-3 : tie.Need-returns-3 Inv-loop μ-loop

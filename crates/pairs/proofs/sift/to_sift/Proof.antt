@@ -1,7 +1,7 @@
 -- Where all are listed none is sifted yet.
 use mathlib.Core.Path.{refl}
 use mathlib.Core.Bool.{true, false}
-use Rattle.pairs.proofs.Sifted.{sifts-none}
+use Rattle.pairs.proofs.Turns.{sifts-none}
 use borrow.Author.Needs.{needs}
 use Rattle.pairs.proofs.sift.to_sift.Statement.{statement}
 use Rattle.pairs.proofs.sift.to_sift.Tie as tie

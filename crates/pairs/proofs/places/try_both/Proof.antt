@@ -6,10 +6,10 @@ use mathlib.Core.Logic.{inl, inr}
 use native.Mathlib.Omega.{arith}
 use lib.ListN.{getD}
 use Rattle.pairs.specs.Sifting.{Another, Puts, Second}
-use Rattle.pairs.proofs.Sifted.{place-below}
+use Rattle.pairs.proofs.Spots.{place-below}
 use borrow.Author.Needs.{needs}
-use Rattle.pairs.proofs.sift.try_both.Statement.{statement}
-use Rattle.pairs.proofs.sift.try_both.Tie as tie
+use Rattle.pairs.proofs.places.try_both.Statement.{statement}
+use Rattle.pairs.proofs.places.try_both.Tie as tie
 
 -- the try at the first place left the places as they were
 by-second : {key : ℕ → ℕ} {a b i left left′ : ℕ} {now places list places′ list′ : List ℕ} → now ≡ places → Another key now a (key i)

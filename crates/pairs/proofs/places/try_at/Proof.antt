@@ -2,10 +2,10 @@
 use Prim.Native.Nat.{_-_}
 use mathlib.Core.Path.{refl, sym, _∙_}
 use native.Mathlib.Omega.{arith}
-use Rattle.pairs.proofs.Sifted.{another, holder}
+use Rattle.pairs.proofs.Spots.{another, holder}
 use borrow.Author.Needs.{needs}
-use Rattle.pairs.proofs.sift.try_at.Statement.{statement}
-use Rattle.pairs.proofs.sift.try_at.Tie as tie
+use Rattle.pairs.proofs.places.try_at.Statement.{statement}
+use Rattle.pairs.proofs.places.try_at.Tie as tie
 
 returns : tie.Need-returns
 returns c = record { empty = sym (c .before .wide .ensures) ∙ c .if1 .taken; is = refl }

@@ -5,8 +5,8 @@ use native.Mathlib.Nat.{mul-le-mul}
 use native.Mathlib.Omega.{arith}
 use Rattle.pairs.specs.Keys.{word}
 use borrow.Author.Needs.{needs}
-use Rattle.pairs.proofs.sift.stirred.Statement.{statement}
-use Rattle.pairs.proofs.sift.stirred.Tie as tie
+use Rattle.pairs.proofs.places.stirred.Statement.{statement}
+use Rattle.pairs.proofs.places.stirred.Tie as tie
 
 mul-result : tie.Need-mul-result
 mul-result c =

@@ -6,8 +6,8 @@ use native.Mathlib.Omega.{arith}
 use Rattle.pairs.specs.Keys.{word}
 use Rattle.pairs.specs.Sifting.{placeOf}
 use borrow.Author.Needs.{needs}
-use Rattle.pairs.proofs.sift.place_of.Statement.{statement}
-use Rattle.pairs.proofs.sift.place_of.Tie as tie
+use Rattle.pairs.proofs.places.place_of.Statement.{statement}
+use Rattle.pairs.proofs.places.place_of.Tie as tie
 
 mul-low : tie.Need-mul-low
 mul-low c =

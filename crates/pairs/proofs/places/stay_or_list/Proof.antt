@@ -7,8 +7,8 @@ use lib.Dec.{eqb}
 use lib.ListN.{set}
 use Rattle.pairs.specs.Sifting.{kept, more}
 use borrow.Author.Needs.{needs}
-use Rattle.pairs.proofs.sift.stay_or_list.Statement.{statement}
-use Rattle.pairs.proofs.sift.stay_or_list.Tie as tie
+use Rattle.pairs.proofs.places.stay_or_list.Statement.{statement}
+use Rattle.pairs.proofs.places.stay_or_list.Tie as tie
 
 kept-few : (held i k : ℕ) → held ≤ k → i ≤ k → kept held i ≤ k
 kept-few held i k h l = go (eqb held 0)

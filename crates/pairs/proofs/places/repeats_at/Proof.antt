@@ -8,10 +8,10 @@ use lib.Dec.{eqb}
 use lib.ListN.{getD}
 use borrow.Author.Tests.{eqb-true, eqb-false}
 use Rattle.pairs.specs.Sifting.{Holds, Another, TriedSecond, Held, kept}
-use Rattle.pairs.proofs.Sifted.{another}
+use Rattle.pairs.proofs.Spots.{another}
 use borrow.Author.Needs.{needs}
-use Rattle.pairs.proofs.sift.repeats_at.Statement.{statement}
-use Rattle.pairs.proofs.sift.repeats_at.Tie as tie
+use Rattle.pairs.proofs.places.repeats_at.Statement.{statement}
+use Rattle.pairs.proofs.places.repeats_at.Tie as tie
 
 -- one of two places, of which the first is not empty, that is not empty
 record Read (places : List ℕ) (b held : ℕ) : Type 0 where

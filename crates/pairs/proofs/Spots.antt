@@ -1,0 +1,59 @@
+-- The two places of a key, and what it means that another key is there.
+use mathlib.Core.Path.{_≡_, sym, ap, _∙_}
+use mathlib.Core.Bool.{Bool, true, false, cond}
+use mathlib.Core.List.{List}
+use Prim.Native.Nat.{ℕ, suc, _+_, _-_, _*_, _/_, _%_, _<_, _≤_, _^_}
+use native.Mathlib.Nat.{lt-of-lt-of-le, div-lt-iff-lt-mul}
+use native.Mathlib.Omega.{arith}
+use lib.ListN.{length, getD, set, replicate, length-replicate}
+use lib.Pow.{pow-pos}
+use Rattle.pairs.specs.Keys.{word}
+use Rattle.pairs.specs.Sifting.{placeOf, Places, Another}
+use Rattle.pairs.proofs.Trees.{after-set}
+
+-- the two places of a key: the factors change their parts
+abbrev pub spotOf : ℕ → ℕ → ℕ → Bool → ℕ → ℕ
+spotOf lower upper shift second x = cond second (placeOf upper lower shift x) (placeOf lower upper shift x)
+
+-- a place is one of the list's
+pub place-below : (lower upper x : ℕ) {shift n : ℕ} {list : List ℕ} → Places shift list → n ≡ length list → placeOf lower upper shift x < n
+unfolding placeOf
+place-below lower upper x {shift} p all = rw all (div-lt-iff-lt-mul (pow-pos shift) .1 (lt-of-lt-of-le below (p .room)))
+  where
+    below : (x % word * lower % word + x / word * upper % word) % word < word
+    below = omega arith
+
+pub spot-below : (lower upper x : ℕ) {shift n : ℕ} {list : List ℕ} → Places shift list → n ≡ length list → (b : Bool) → spotOf lower upper shift b x < n
+spot-below lower upper x p all true = place-below upper lower x p all
+spot-below lower upper x p all false = place-below lower upper x p all
+
+-- places that are all empty
+pub places-in : (shift places : ℕ) → shift < 64 → word ≤ places * 2 ^ shift → Places shift (replicate places 0)
+places-in shift places short room = let z : ℕ = 0 in record { short = short; room = rw (length-replicate places z) room }
+
+-- as many places as before
+pub places-as : {shift : ℕ} {list now : List ℕ} → length now ≡ length list → Places shift list → Places shift now
+places-as q p = record { short = p .short; room = rw q (p .room) }
+
+-- what is read at a place that is not empty is the number of a record and one
+pub holder : {w x : ℕ} → w ≡ x → (w ≡ 0 → ⊥) → x ≡ suc (w - 1)
+holder is full = omega (arith, is, full)
+
+pub another : {key : ℕ → ℕ} {places : List ℕ} {a x h : ℕ} → getD places a 0 ≡ suc h → (key h ≡ x → ⊥) → Another key places a x
+another {key} {places} {a} {x} {h} is other =
+    record {
+      full = λ p. omega (arith, p, is);
+      differ = λ g p q. let same : g ≡ h = omega (arith, p, is) in other (ap key (sym same) ∙ q);
+    }
+
+-- it stays so where a record comes to an empty place
+pub another-set : {key : ℕ → ℕ} (places : List ℕ) (e v : ℕ) {a x : ℕ} → e < length places → getD places e 0 ≡ 0 → Another key places a x
+    → Another key (set places e v) a x
+another-set {key} places e v {a} {x} l empty w =
+    record {
+      full = after-set (λ (z : ℕ). z ≡ 0 → ⊥) places e a v 0 l (λ q. absurd (w .full (ap (λ k. getD places k 0) q ∙ empty))) (λ q. w .full);
+      differ = λ h.
+          after-set (λ (z : ℕ). z ≡ suc h → key h ≡ x → ⊥) places e a v 0 l
+          (λ q. absurd (w .full (ap (λ k. getD places k 0) q ∙ empty)))
+          (λ q. w .differ h);
+    }
