@@ -10,7 +10,8 @@ from require import require
 
 ROOT = Path(__file__).resolve().parent.parent
 
-# Where the wrong programs of a crate stand: those that are checked from nothing, and those that are checked over what the crate's own check left.
+# Where the wrong programs of a crate stand: those that are checked from nothing, and those that are checked over what the crate's own
+# check left.
 WHOLE, QUICK = "must-fail", "must-fail-quick"
 
 

@@ -1,7 +1,7 @@
 #!/usr/bin/env python3
 """Tries the wrong programs of the large crates, those under must-fail-quick: the checker must refuse each. It comes after rt ci, which has
-proved every crate from nothing. A crate is checked once as it stands, over an empty incremental folder, and must be proved there; then with
-each edit, over a copy of that folder: so only what the edit touches is checked again.
+proved every crate from nothing. A crate is checked once as it stands, over an empty incremental folder, and must be proved there, and again
+in a copy; then with each edit, over a copy of that folder: so only what the edit touches is checked again.
 
   quick_edits.py [CRATE...]
 
@@ -45,23 +45,29 @@ def checked(repository: Path, crate: str) -> tuple[int, str]:
     return run.returncode, run.stdout
 
 
+def checked_with(crate: str, texts: dict[str, str]) -> tuple[int, str]:
+    """The same with other texts of some files, over a copy of what the check of the crate as it stands left."""
+    with TemporaryDirectory() as room:
+        repository = repository_with(Path(room), crate)
+        shutil.copytree(TARGET / "inc" / crate, repository / "target" / "inc" / crate)
+        for file, text in texts.items():
+            (repository / "crates" / crate / file).write_text(text)
+        status, said = checked(repository, crate)
+        return status, said.replace(f"{repository}/crates/{crate}/", "")
+
+
 def check_as_it_stands(crate: str) -> None:
+    """Fills the incremental folder. A crate must be proved there, and in a copy that no edit changes."""
     shutil.rmtree(TARGET / "inc" / crate, ignore_errors=True)
-    status, said = checked(ROOT, crate)
-    require(status == 0 and "\nlogic=proved" in said, f"{crate} is proved as it stands:\n{said}")
+    for status, said in (checked(ROOT, crate), checked_with(crate, {})):
+        require(status == 0 and "\nlogic=proved" in said, f"{crate} is proved as it stands:\n{said}")
 
 
 def refused(edit: Path) -> bool:
     """Whether the checker refuses a crate with an edit."""
     crate, name = edit.parent.parent.name, edit.stem
     began = time.monotonic()
-    with TemporaryDirectory() as room:
-        repository = repository_with(Path(room), crate)
-        shutil.copytree(TARGET / "inc" / crate, repository / "target" / "inc" / crate)
-        for file, text in made(edit)[0].items():
-            (repository / "crates" / crate / file).write_text(text)
-        status, said = checked(repository, crate)
-        said = said.replace(f"{repository}/crates/{crate}/", "")
+    status, said = checked_with(crate, made(edit)[0])
     log = TARGET / QUICK / crate / f"{name}.log"
     log.parent.mkdir(parents=True, exist_ok=True)
     log.write_text(said)
@@ -74,10 +80,13 @@ def refused(edit: Path) -> bool:
 
 def main(crates: list[str]) -> None:
     edits = sorted(edit for edit in ROOT.glob(f"crates/*/{QUICK}/*.edit") if not crates or edit.parent.parent.name in crates)
+    large = sorted({edit.parent.parent.name for edit in edits})
+    proved = subprocess.run(["rt", "check", *large], cwd=ROOT, stdout=subprocess.PIPE, stderr=subprocess.STDOUT, text=True)
+    require(edits and proved.returncode == 0, f"the crates are proved:\n{proved.stdout}")
     with ThreadPoolExecutor(JOBS) as workers:
-        list(workers.map(check_as_it_stands, sorted({edit.parent.parent.name for edit in edits})))
+        list(workers.map(check_as_it_stands, large))
         answers = list(workers.map(refused, edits))
-    require(edits and all(answers), "every wrong program is refused; passed:", *(edit.stem for edit, no in zip(edits, answers) if not no))
+    require(all(answers), "every wrong program is refused, but these are proved:", *(edit.stem for edit, no in zip(edits, answers) if not no))
     print(f"quick edits: {len(edits)} wrong programs refused")
 
 
