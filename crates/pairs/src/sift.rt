@@ -1,5 +1,6 @@
 // Sifting a list of records, by the two places that each has. All records with one key have the same places: so of those that are left none
 // repeats one that stayed, and they can be sifted anew by other places, until none is left.
+use crate::factors::made_of;
 use crate::keys::Key;
 use crate::keys::WORD;
 use crate::keys::smaller;
@@ -176,7 +177,8 @@ fn sift_listed(
     }
 }
 
-// Sifts the m records of a list by places that are cleared before: few of them by a sixteenth of the places.
+// Sifts the m records of a list by places that are cleared before: few of them by a sixteenth of the places, many by factors that are made of
+// their keys.
 fn sift_anew(
     records: &[u8],
     size: usize,
@@ -210,8 +212,20 @@ fn sift_anew(
             shift + 4,
         );
     }
+    let f = made_of(records, size, key, n, list, m, lower, upper);
     clear(place);
-    sift_listed(records, size, key, n, list, m, lower, upper, place, shift)
+    sift_listed(
+        records,
+        size,
+        key,
+        n,
+        list,
+        m,
+        f.lower,
+        f.upper,
+        place,
+        shift,
+    )
 }
 
 // What is to be sifted next: those that are left, or all again where it gave up.
