@@ -23,6 +23,7 @@ def made(edit: Path) -> tuple[dict[str, str], list[str]]:
         text = rest.removeprefix(" ")
         if word == "file":
             file = text
+            require(file.split("/")[0] in ("src", "specs", "proofs") and ".." not in file.split("/"), "an edit stays in its crate:", file)
             texts.setdefault(file, (crate / file).read_text())
         elif word == "old":
             old = text

@@ -113,7 +113,7 @@ fn stay_or_list(place: &mut [u16], spot: usize, i: usize, list: &mut [u16], left
 fn gives_up(left: usize, t: usize, m: usize) -> bool
     ensures { λ _. ⊤ₛ }
 {
-    (48 < left) & (t < m / 3)
+    (16 < left) & (t < m / 5)
 }
 
 // What comes of a record: it repeats another; or too many are left; or so many are.

@@ -1,6 +1,5 @@
 // Sifting a list of records, by the two places that each has. All records with one key have the same places: so of those that are left none
 // repeats one that stayed, and they can be sifted anew by other places, until none is left.
-use crate::factors::made_of;
 use crate::keys::Key;
 use crate::keys::WORD;
 use crate::keys::smaller;
@@ -18,12 +17,13 @@ ghost use Rattle.pairs.specs.Walks.{Keyed, Zeros};
 ghost use Rattle.pairs.specs.Indices.{at, Rising};
 ghost use Rattle.pairs.specs.Sifting.{Places, Sifts, Next};
 
-// Two odd factors, of a key's lower half and of its upper half. With these, records in which every account holds every mark leave few.
+// Two odd factors, of a key's lower half and of its upper half. With these, records in which every account holds every mark leave few, in
+// nearly all files of that kind that were tried.
 const LOWER: u64 = 2_654_435_761;
 
 const UPPER: u64 = 1_973_900_851;
 
-// An odd factor, by which they change where a list is sifted anew.
+// An odd factor, by which the first changes where a list is sifted anew; the second changes by LOWER.
 const ANEW: u64 = 2_246_822_519;
 
 // So often at most.
@@ -177,8 +177,7 @@ fn sift_listed(
     }
 }
 
-// Sifts the m records of a list by places that are cleared before: few of them by a sixteenth of the places, many by factors that are made of
-// their keys.
+// Sifts the m records of a list by places that are cleared before: few of them by a sixteenth of the places.
 fn sift_anew(
     records: &[u8],
     size: usize,
@@ -212,20 +211,8 @@ fn sift_anew(
             shift + 4,
         );
     }
-    let f = made_of(records, size, key, n, list, m, lower, upper);
     clear(place);
-    sift_listed(
-        records,
-        size,
-        key,
-        n,
-        list,
-        m,
-        f.lower,
-        f.upper,
-        place,
-        shift,
-    )
+    sift_listed(records, size, key, n, list, m, lower, upper, place, shift)
 }
 
 // What is to be sifted next: those that are left, or all again where it gave up.

@@ -105,7 +105,7 @@ const SIZES: [usize; 5] = [32, 128, 512, 1_024, MAX_POSITIONS];
 const LOWER: u32 = 2_654_435_761;
 const UPPER: u32 = 1_973_900_851;
 
-/// Where few are sifted anew, the first is multiplied by this, and the second by the first as it was at the start.
+/// Where a list is sifted anew, the first is multiplied by this, and the second by the first as it was at the start.
 const ANEW: u32 = 2_246_822_519;
 
 /// A position whose first place in the library's first sifting goes by a number: 0 is the first of all places, and the
@@ -250,17 +250,14 @@ fn numbers_anew((account, mark, _): Holding, times: u32) -> [u32; 2] {
     [(lower, upper), (upper, lower)].map(|(a, b)| low.wrapping_mul(a).wrapping_add(high.wrapping_mul(b)))
 }
 
-/// The last ones are crowded in the first three siftings by the fixed factors. These are the factors of each sifting where a sixteenth is left,
-/// which is sifted by fewer places; where more are left, the next factors are made of what is left.
+/// The last quarter is crowded in the first three siftings: few of it stay there, where many are left early or late.
 #[test]
 fn crowded_anew() {
     let is_crowded = |holding, times| numbers_anew(holding, times).iter().all(|&number| number < 1 << 29);
     let is_left = |&holding: &Holding| is_crowded(holding, 1) && is_crowded(holding, 2);
     let crowded: Vec<Holding> = (0..).map(at_one_place).filter(is_left).take(MAX_POSITIONS).collect();
     for count in SIZES {
-        for ordinary in [count * 15 / 16, count * 3 / 4] {
-            assert_first(found, &mixed(&crowded[..count], |index| index < ordinary));
-        }
+        assert_first(found, &mixed(&crowded[..count], |index| index < count * 3 / 4));
     }
 }
 

@@ -11,9 +11,8 @@ sift-listed-requires c κs =
 
 sift-listed-requires-2 : tie.Need-sift-listed-requires-2
 sift-listed-requires-2 c κs =
-    let p = c .before .before .before .before .before .before .before .before .before .before .before .before .before .pre in
-    let f = c .before .before .before .before .before .before .made-of .ensures in
-    (p .0, p .1, p .2, p .3, places-as (c .before .before .before .place .given) (p .4), c .before .before .before .before .clear2 .ensures, f .0, f .1)
+    let p = c .before .before .before .before .before .before .before .before .before .before .before .pre in
+    (p .0, p .1, p .2, p .3, places-as (c .before .before .before .place .given) (p .4), c .before .before .before .before .clear2 .ensures, p .6, p .7)
 
 pub sift-anew-spec : {M : Type 1} → statement M
 sift-anew-spec =
@@ -25,7 +24,6 @@ sift-anew-spec =
     (λ c. search needs)
     (λ c. search needs)
     (λ c. search needs)
-    (λ c κs. search needs)
     (λ c κs. search needs)
     sift-listed-requires-2
     (λ c. search needs)
