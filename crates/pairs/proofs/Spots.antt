@@ -8,12 +8,12 @@ use native.Mathlib.Omega.{arith}
 use lib.ListN.{length, getD, set, replicate, length-replicate}
 use lib.Pow.{pow-pos}
 use Rattle.pairs.specs.Keys.{word}
-use Rattle.pairs.specs.Sifting.{placeOf, Places, Another}
+use Rattle.pairs.specs.Sifting.{placeOf, firstPlace, secondPlace, Places, Another}
 use Rattle.pairs.proofs.Trees.{after-set}
 
--- the two places of a key: the factors change their parts
-abbrev pub spotOf : ℕ → ℕ → ℕ → Bool → ℕ → ℕ
-spotOf lower upper shift second x = cond second (placeOf upper lower shift x) (placeOf lower upper shift x)
+-- the two places of a key
+abbrev pub spotOf : ℕ → Bool → ℕ → ℕ
+spotOf shift second x = cond second (secondPlace shift x) (firstPlace shift x)
 
 -- a place is one of the list's
 pub place-below : (lower upper x : ℕ) {shift n : ℕ} {list : List ℕ} → Places shift list → n ≡ length list → placeOf lower upper shift x < n
@@ -23,9 +23,9 @@ place-below lower upper x {shift} p all = rw all (div-lt-iff-lt-mul (pow-pos shi
     below : (x % word * lower % word + x / word * upper % word) % word < word
     below = omega arith
 
-pub spot-below : (lower upper x : ℕ) {shift n : ℕ} {list : List ℕ} → Places shift list → n ≡ length list → (b : Bool) → spotOf lower upper shift b x < n
-spot-below lower upper x p all true = place-below upper lower x p all
-spot-below lower upper x p all false = place-below lower upper x p all
+pub spot-below : (x : ℕ) {shift n : ℕ} {list : List ℕ} → Places shift list → n ≡ length list → (b : Bool) → spotOf shift b x < n
+spot-below x p all true = place-below _ _ x p all
+spot-below x p all false = place-below _ _ x p all
 
 -- places that are all empty
 pub places-in : (shift places : ℕ) → shift < 64 → word ≤ places * 2 ^ shift → Places shift (replicate places 0)

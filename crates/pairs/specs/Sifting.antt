@@ -4,6 +4,7 @@ use mathlib.Core.Path.{_≡_}
 use mathlib.Core.Bool.{Bool, true, false, cond}
 use mathlib.Core.List.{List}
 use mathlib.Core.Logic.{_⊎_}
+use lib.Bits.{bitXor}
 use lib.ListN.{length, getD, set}
 use lib.Dec.{eqb, ltb}
 use Rattle.numbers.specs.declared.Found.{Found}
@@ -21,10 +22,21 @@ use Rattle.pairs.specs.declared.first.Tried.the-variants.{Answered, Unan
 unfoldable pub placeOf : ℕ → ℕ → ℕ → ℕ → ℕ
 placeOf lower upper shift x = (x % word * lower % word + x / word * upper % word) % word / 2 ^ shift
 
--- what a key's places are made of: the key, or its two halves multiplied, each with a number added
-abbrev pub stirredBy : Bool → ℕ → ℕ → ℕ → ℕ
-stirredBy true lower upper x = (x % word + lower) % word * ((x / word + upper) % word)
-stirredBy false lower upper x = x
+-- its first place, and its second, for which the factors change their parts
+abbrev pub firstPlace : ℕ → ℕ → ℕ
+firstPlace = placeOf 2_654_435_761 1_973_900_851
+
+abbrev pub secondPlace : ℕ → ℕ → ℕ
+secondPlace = placeOf 1_973_900_851 2_654_435_761
+
+-- multiples of the two halves of a number, bit by bit
+abbrev pub multiples : ℕ → ℕ
+multiples y = bitXor (y % word * 2_246_822_519) (y / word * 3_266_489_917)
+
+-- what a key's places are made of: the key, or multiples of its halves with a seed
+abbrev pub stirredBy : Bool → ℕ → ℕ → ℕ
+stirredBy true seed x = multiples (bitXor x seed)
+stirredBy false seed x = x
 
 -- a list has room for all these places
 pub record Places (shift : ℕ) (list : List ℕ) : Type 0 where

@@ -5,6 +5,7 @@ mod keys;
 mod lists;
 mod pairwise;
 mod places;
+mod seeds;
 mod sift;
 mod walks;
 

@@ -8,7 +8,18 @@ ghost use mathlib.Core.Path.{_≡_};
 ghost use Prim.Native.Nat.{_/_, _≤_, _<_};
 ghost use lib.ListN.{length};
 ghost use Rattle.pairs.specs.Keys.{widthOf, keyAt, most, word};
-ghost use Rattle.pairs.specs.Sifting.{placeOf, stirredBy, Places, Held, Another, TriedAt, TriedSecond, kept, more, Puts, TriedBoth};
+ghost use Rattle.pairs.specs.Sifting.{placeOf, firstPlace, secondPlace, stirredBy, Places, Held, Another, TriedAt, TriedSecond, kept, more, Puts, TriedBoth};
+
+// Two odd factors, of a key's lower half and of its upper half. With these, records in which every account holds every mark leave few, in
+// nearly all files of that kind that were tried.
+const LOWER: u64 = 2_654_435_761;
+
+const UPPER: u64 = 1_973_900_851;
+
+// And two more, by which they are stirred.
+const LOW: u64 = 2_246_822_519;
+
+const HIGH: u64 = 3_266_489_917;
 
 // The place of a key: of its lower half times a number and its upper half times another, added, the highest of 32 bits.
 fn place_of(x: u64, lower: u64, upper: u64, shift: u32) -> usize
@@ -20,14 +31,14 @@ fn place_of(x: u64, lower: u64, upper: u64, shift: u32) -> usize
     ((low + high) % WORD >> shift) as usize
 }
 
-// What a key's places are made of: the key, or where a list is sifted anew the product of its two halves, each with a number added. Sums of
-// multiples alone would let keys that differ in their highest bits alone meet again in each turn.
-fn stirred(x: u64, lower: u64, upper: u64, anew: bool) -> u64
-    requires { ⌜ (lower < word) × (upper < word) ⌝ }
-    ensures { λ r. ⌜ r ≡ stirredBy anew lower upper x ⌝ }
+// What a key's places are made of: the key, or where a list is sifted anew, two multiples of its halves after a seed has changed some of its
+// bits.
+fn stirred(x: u64, seed: u64, anew: bool) -> u64
+    ensures { λ r. ⌜ r ≡ stirredBy anew seed x ⌝ }
 {
     if anew {
-        (x % WORD + lower) % WORD * ((x / WORD + upper) % WORD)
+        let y = x ^ seed;
+        (y % WORD * LOW) ^ (y / WORD * HIGH)
     } else {
         x
     }
@@ -113,7 +124,7 @@ fn stay_or_list(place: &mut [u16], spot: usize, i: usize, list: &mut [u16], left
 fn gives_up(left: usize, t: usize, m: usize) -> bool
     ensures { λ _. ⊤ₛ }
 {
-    (16 < left) & (t < m / 5)
+    (48 < left) & (t < m / 3)
 }
 
 // What comes of a record: it repeats another; or too many are left; or so many are.
@@ -129,8 +140,7 @@ pub(crate) fn try_both(
     size: usize,
     key: Key,
     i: usize,
-    lower: u64,
-    upper: u64,
+    seed: u64,
     anew: bool,
     place: &mut [u16],
     shift: u32,
@@ -139,16 +149,16 @@ pub(crate) fn try_both(
     t: usize,
     m: usize,
 ) -> Step
-    requires { ⌜ (widthOf key ≤ size) × (i < length (now records) / size) × (i < most) × (lower < word) × (upper < word)
+    requires { ⌜ (widthOf key ≤ size) × (i < length (now records) / size) × (i < most)
         × (Held (length (now records) / size) (now place)) × (Held most (now place)) × (Places shift (now place))
         × (left < length (now list)) × (left < most) ⌝ }
     ensures { λ r. ⌜ TriedBoth (keyAt key size (now (records .entry)))
-        (λ x. placeOf lower upper shift (stirredBy anew lower upper x)) (λ x. placeOf upper lower shift (stirredBy anew lower upper x))
+        (λ x. firstPlace shift (stirredBy anew seed x)) (λ x. secondPlace shift (stirredBy anew seed x))
         (now (place .entry)) (now (list .entry)) left i (now (place .exit)) (now (list .exit)) r ⌝ }
 {
     let x = key_at(records, size, key, i);
-    let y = stirred(x, lower, upper, anew);
-    let first = place_of(y, lower, upper, shift);
+    let y = stirred(x, seed, anew);
+    let first = place_of(y, LOWER, UPPER, shift);
     match try_at(records, size, key, place, first, i, x) {
         Placed::Stays => {
             return Step::Left(left);
@@ -158,7 +168,7 @@ pub(crate) fn try_both(
         }
         Placed::Differs => {}
     }
-    let second = place_of(y, upper, lower, shift);
+    let second = place_of(y, UPPER, LOWER, shift);
     if repeats_at(records, size, key, place, first, second, x) {
         return Step::Repeated;
     }

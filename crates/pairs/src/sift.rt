@@ -1,33 +1,24 @@
 // Sifting a list of records, by the two places that each has. All records with one key have the same places: so of those that are left none
 // repeats one that stayed, and they can be sifted anew by other places, until none is left.
 use crate::keys::Key;
-use crate::keys::WORD;
 use crate::keys::smaller;
 use crate::keys::wide;
 use crate::lists::clear;
 use crate::lists::list_all;
 use crate::places::Step;
 use crate::places::try_both;
+use crate::seeds::seed_of;
 ghost use mathlib.Core.Path.{_≡_};
 ghost use mathlib.Core.Bool.{true};
-ghost use Prim.Native.Nat.{_+_, _≤_, _<_};
+ghost use Prim.Native.Nat.{_+_, _≤_};
 ghost use lib.ListN.{length};
-ghost use Rattle.pairs.specs.Keys.{keyAt, most, word};
+ghost use Rattle.pairs.specs.Keys.{keyAt, most};
 ghost use Rattle.pairs.specs.Walks.{Keyed, Zeros};
 ghost use Rattle.pairs.specs.Indices.{at, Rising};
 ghost use Rattle.pairs.specs.Sifting.{Places, Sifts, Next};
 
-// Two odd factors, of a key's lower half and of its upper half. With these, records in which every account holds every mark leave few, in
-// nearly all files of that kind that were tried.
-const LOWER: u64 = 2_654_435_761;
-
-const UPPER: u64 = 1_973_900_851;
-
-// An odd factor, by which the first changes where a list is sifted anew; the second changes by LOWER.
-const ANEW: u64 = 2_246_822_519;
-
 // So often at most.
-const TURNS: usize = 16;
+const TURNS: u64 = 16;
 
 // The first record that repeats another, or the number of all; how many are left, and whether the list has them all.
 pub struct Sifted {
@@ -57,8 +48,7 @@ fn sift_first(
             size,
             key,
             i,
-            LOWER,
-            UPPER,
+            0,
             false,
             place,
             shift,
@@ -121,13 +111,12 @@ fn sift_listed(
     n: usize,
     list: &mut [u16],
     m: usize,
-    lower: u64,
-    upper: u64,
+    seed: u64,
     place: &mut [u16],
     shift: u32,
 ) -> Sifted
     requires { ⌜ (Keyed key size (now records) n) × (Rising n m (at (now list))) × (m ≤ length (now list)) × (m ≤ n)
-        × (Places shift (now place)) × Zeros (now place) × (lower < word) × (upper < word) ⌝ }
+        × (Places shift (now place)) × Zeros (now place) ⌝ }
     ensures { λ r. ⌜ (r .whole ≡ true → Sifts (keyAt key size (now (records .entry))) n m (at (now (list .entry))) (now (list .exit))
         (r .found) (r .left)) ⌝ }
 {
@@ -140,8 +129,7 @@ fn sift_listed(
             size,
             key,
             i,
-            lower,
-            upper,
+            seed,
             true,
             place,
             shift,
@@ -177,7 +165,7 @@ fn sift_listed(
     }
 }
 
-// Sifts the m records of a list by places that are cleared before: few of them by a sixteenth of the places.
+// Sifts the m records of a list by a seed that their keys make, and places that are cleared before: few of them by a sixteenth of the places.
 fn sift_anew(
     records: &[u8],
     size: usize,
@@ -185,17 +173,17 @@ fn sift_anew(
     n: usize,
     list: &mut [u16],
     m: usize,
-    lower: u64,
-    upper: u64,
+    turn: u64,
     place: &mut [u16],
     shift: u32,
     other: &mut [u16],
 ) -> Sifted
     requires { ⌜ (Keyed key size (now records) n) × (Rising n m (at (now list))) × (m ≤ length (now list)) × (m ≤ n)
-        × (Places shift (now place)) × Places (shift + 4) (now other) × (lower < word) × (upper < word) ⌝ }
+        × (Places shift (now place)) × Places (shift + 4) (now other) ⌝ }
     ensures { λ r. ⌜ (r .whole ≡ true → Sifts (keyAt key size (now (records .entry))) n m (at (now (list .entry))) (now (list .exit))
         (r .found) (r .left)) ⌝ }
 {
+    let seed = seed_of(records, size, key, n, list, m, turn);
     if m <= n / 16 {
         clear(other);
         return sift_listed(
@@ -205,14 +193,13 @@ fn sift_anew(
             n,
             list,
             m,
-            lower,
-            upper,
+            seed,
             other,
             shift + 4,
         );
     }
     clear(place);
-    sift_listed(records, size, key, n, list, m, lower, upper, place, shift)
+    sift_listed(records, size, key, n, list, m, seed, place, shift)
 }
 
 // What is to be sifted next: those that are left, or all again where it gave up.
@@ -231,7 +218,7 @@ fn to_sift(list: &mut [u16], n: usize, s: Sifted) -> Sifted
     }
 }
 
-// Sifts n records, and then what is left of them by other factors in each turn.
+// Sifts n records, and then what is left of them by another seed in each turn.
 pub(crate) fn sift_all(
     records: &[u8],
     size: usize,
@@ -247,12 +234,8 @@ pub(crate) fn sift_all(
     ensures { λ r. ⌜ (r .whole ≡ true → Sifts (keyAt key size (now (records .entry))) n n (λ u. u) (now (list .exit)) (r .found) (r .left)) ⌝ }
 {
     let mut s = sift_once(records, size, key, n, list, place, shift);
-    let mut lower = LOWER;
-    let mut upper = UPPER;
-    let mut turns = 0usize;
+    let mut turns = 0u64;
     while (turns < TURNS) & (!s.whole | (0 < s.left)) {
-        lower = lower * ANEW % WORD;
-        upper = upper * LOWER % WORD;
         let all = to_sift(list, n, s);
         let anew = sift_anew(
             records,
@@ -261,8 +244,7 @@ pub(crate) fn sift_all(
             n,
             list,
             all.left,
-            lower,
-            upper,
+            turns,
             place,
             shift,
             other,

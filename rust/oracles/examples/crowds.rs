@@ -5,6 +5,7 @@
 //!
 //! The number is that of the rounds. All kinds take turns within each round, and each kind is timed twice: `again` is the same file in
 //! each round, settled some times before the timed call; `new` is a file with other accounts of the kind, settled by the timed call alone.
+//! Accounts are chosen against the first turn of the search. The next turn's factors are made of the accounts that it sifts.
 
 use citronreef::records::{Day, MAX_CORRECTIONS, MAX_MARKS, MAX_POSITIONS};
 use citronreef::settle;
@@ -20,9 +21,6 @@ const UNTIMED: usize = 8;
 
 /// So many new files of a kind take turns: too many to be learnt.
 const NEW_FILES: usize = 64;
-
-/// So many plans for several turns are made; each more takes a minute to draw.
-const PLANS: usize = 2;
 
 /// The account and the mark of a position.
 type Holding = (u32, u32);
@@ -120,29 +118,16 @@ fn crowd() -> Vec<Holding> {
     crowd
 }
 
-/// The numbers of a turn: the multipliers change for each.
-fn numbers_of(turn: u32) -> (u32, u32) {
-    const ANEW: u32 = 2_246_822_519;
-    (0..turn).fold((LOWER, UPPER), |(lower, upper), _| (lower.wrapping_mul(ANEW), upper.wrapping_mul(LOWER)))
-}
-
-/// The two places of a holding in a turn. After the first turn they are those of a product.
-fn places_in(turn: u32, (account, mark): Holding) -> [usize; 2] {
-    let (lower, upper) = numbers_of(turn);
-    let product = u64::from(account.wrapping_add(lower)) * u64::from(mark.wrapping_add(upper));
-    let (low, high) = if turn == 0 { (account, mark) } else { (product as u32, (product >> 32) as u32) };
-    let place = |a: u32, b: u32| (low.wrapping_mul(a).wrapping_add(high.wrapping_mul(b)) / NUMBERS_OF_PLACE) as usize;
-    [place(lower, upper), place(upper, lower)]
-}
-
-/// So many holdings of which both places are among the first so many, in the first turn, the second and so on.
-fn crowd_of_turns(random: &mut Random, size: usize, counts: &[usize]) -> Vec<Holding> {
-    let is_crowded = |holding| (0..).zip(counts).all(|(turn, &count)| places_in(turn, holding).iter().all(|&place| place < count));
+/// Holdings of which both places are among so many. Which these places are is drawn.
+fn crowd_among(random: &mut Random, count: usize) -> Vec<Holding> {
+    let mut is_among: Vec<bool> = (0..PLACES).map(|place| place < count).collect();
+    shuffle(random, &mut is_among);
+    let firsts: Vec<u32> = (0..PLACES as u32).filter(|&place| is_among[place as usize]).collect();
     let mut crowd = HashSet::new();
-    while crowd.len() < size {
-        let first = random.below(counts[0]) as u32;
-        let holding = at_number(first * NUMBERS_OF_PLACE + below(random, NUMBERS_OF_PLACE), any_mark(random));
-        if is_crowded(holding) {
+    while crowd.len() < MAX_POSITIONS + 1_024 {
+        let number = random.pick(&firsts) * NUMBERS_OF_PLACE + below(random, NUMBERS_OF_PLACE);
+        let holding = at_number(number, any_mark(random));
+        if is_among[(second_number(holding) / NUMBERS_OF_PLACE) as usize] {
             crowd.insert(holding);
         }
     }
@@ -151,39 +136,13 @@ fn crowd_of_turns(random: &mut Random, size: usize, counts: &[usize]) -> Vec<Hol
     crowd
 }
 
-/// So many positions are of a crowd, then so many of another, and so on; an empty crowd stands for ordinary ones.
-type Parts = Vec<(usize, Vec<Holding>)>;
-
-/// The first fifth is crowded in the first turns, so that each gives up; then some are ordinary; the others are crowded in the turn after
-/// these, and most of them in the next as well.
-fn parts_of_turns(random: &mut Random, turns: usize) -> Parts {
-    const EARLY: usize = MAX_POSITIONS / 5;
-    let mut later = |counts: &[usize]| crowd_of_turns(random, MAX_POSITIONS + 1_024, &[&vec![PLACES; turns], counts].concat());
-    let (once, twice) = (later(&[600]), later(&[600, 600]));
-    let mut parts = vec![(100, vec![]), (560, once), (MAX_POSITIONS - EARLY - 660, twice)];
-    if turns > 0 {
-        parts.insert(0, (EARLY, crowd_of_turns(random, 2 * EARLY, &vec![2_700; turns])));
-    } else {
-        parts[0].0 += EARLY;
-    }
-    parts
-}
-
-/// Positions by parts.
-fn in_parts(parts: &Parts) -> Make<'_> {
-    Box::new(move |random| {
-        let crowds: Vec<&Vec<Holding>> = parts.iter().flat_map(|(count, crowd)| vec![crowd; *count]).collect();
-        drawn(|index| if crowds[index].is_empty() { ordinary(random) } else { random.pick(crowds[index]) })
-    })
-}
-
 /// Some are ordinary, and the others are of the crowd.
 fn mixed<'a>(crowd: &'a [Holding], is_ordinary: impl Fn(usize) -> bool + 'a) -> Make<'a> {
     Box::new(move |random| drawn(|index| if is_ordinary(index) { ordinary(random) } else { random.pick(crowd) }))
 }
 
 /// The kinds of files by what they are called, each with what makes the holdings of one.
-fn kinds<'a>(crowd: &'a [Holding], turns: &'a [(String, Vec<Holding>)], plans: &'a [Parts]) -> Vec<(String, Make<'a>)> {
+fn kinds<'a>(crowd: &'a [Holding], wider: &'a [(usize, Vec<Holding>)]) -> Vec<(String, Make<'a>)> {
     let mut kinds: Vec<(String, Make)> = vec![
         ("without a plan".into(), Box::new(|random| drawn(|_| ordinary(random)))),
         ("one mark".into(), Box::new(|random| drawn(|_| (random.number() as u32, 0)))),
@@ -193,19 +152,16 @@ fn kinds<'a>(crowd: &'a [Holding], turns: &'a [(String, Vec<Holding>)], plans: &
         ("the same, one mark".into(), Box::new(|random| both_in_64th(random, 1))),
         ("both among four".into(), mixed(crowd, |_| false)),
     ];
-    let parts = [("1/8", 2), ("1/4", 4), ("5/16", 5), ("3/8", 6), ("7/16", 7), ("1/2", 8), ("5/8", 10), ("3/4", 12)];
-    for (part, sixteenths) in parts {
-        let start = MAX_POSITIONS * sixteenths / 16;
-        kinds.push((format!("late, after {part}"), mixed(crowd, move |index| index < start)));
+    for start in [512, 1_024, 1_330, 1_366, 1_536, 2_048, 3_072] {
+        kinds.push((format!("late, after {start}"), mixed(crowd, move |index| index < start)));
     }
     for (step, each) in [(2, "2nd"), (3, "3rd"), (4, "4th")] {
         kinds.push((format!("every {each} ordinary"), mixed(crowd, move |index| index % step == 0)));
     }
-    for (label, crowd) in turns {
-        kinds.push((label.clone(), mixed(crowd, |_| false)));
-    }
-    for (turns, parts) in plans.iter().enumerate() {
-        kinds.push((format!("{turns} turns, then late twice"), in_parts(parts)));
+    for (count, crowd) in wider {
+        kinds.push((format!("both among {count}"), mixed(crowd, |_| false)));
+        kinds.push(("the first third of these".into(), mixed(crowd, |index| index >= 1_365)));
+        kinds.push(("these late, after 1366".into(), mixed(crowd, |index| index < 1_366)));
     }
     for seconds in [64, 500, 1_000, 2_000, 2_500, 3_000, 3_500, 4_000, 5_000, 6_000, 7_000] {
         kinds.push((format!("one first, {seconds} second"), Box::new(move |random| one_first_place(random, seconds))));
@@ -279,12 +235,9 @@ fn settle_time(file: &[u8], amounts: &mut [i64]) -> f64 {
 fn kinds_with_times(rounds: usize) -> Vec<Kind> {
     let mut random = Random::new(88_172_645_463_325_252);
     let (crowd, day) = (crowd(), common_day(&mut random));
-    let counts: [&[usize]; 7] =
-        [&[1_365; 2], &[2_000; 2], &[3_000; 2], &[4_000, 1_000], &[2_000; 3], &[3_000; 3], &[6_000, 600]];
-    let turns: Vec<(String, Vec<Holding>)> =
-        counts.iter().map(|&counts| (format!("turns {counts:?}"), crowd_of_turns(&mut random, MAX_POSITIONS + 1_024, counts))).collect();
-    let plans: Vec<Parts> = (0..PLANS).map(|turns| parts_of_turns(&mut random, turns)).collect();
-    let mut kinds: Vec<Kind> = kinds(&crowd, &turns, &plans).into_iter().map(|kind| Kind::new(&mut random, &day, kind)).collect();
+    let wider: Vec<(usize, Vec<Holding>)> =
+        [600, 1_500, 2_700, 3_500, 4_000, 5_000, 6_000].map(|count| (count, crowd_among(&mut random, count))).into();
+    let mut kinds: Vec<Kind> = kinds(&crowd, &wider).into_iter().map(|kind| Kind::new(&mut random, &day, kind)).collect();
     let (mut file, mut amounts) = (day.bytes(), vec![0; MAX_POSITIONS]);
     for round in 0..rounds {
         kinds.iter_mut().for_each(|kind| kind.time(round, &mut file, &mut amounts));
@@ -295,10 +248,10 @@ fn kinds_with_times(rounds: usize) -> Vec<Kind> {
 const COLUMNS: [&str; 4] = ["again, best", "again, median", "new, best", "new, median"];
 
 fn print_table(rows: &[(String, [f64; 4])]) {
-    println!("{:>26}{}", "", COLUMNS.map(|column| format!("{column:>18}")).concat());
+    println!("{:>24}{}", "", COLUMNS.map(|column| format!("{column:>18}")).concat());
     for (label, times) in rows {
         let cell = |column: usize| format!("{:>10.1}{:>8.2}", times[column], times[column] / rows[0].1[column]);
-        println!("{label:>26}{}", [0, 1, 2, 3].map(cell).concat());
+        println!("{label:>24}{}", [0, 1, 2, 3].map(cell).concat());
     }
 }
 

@@ -20,7 +20,7 @@ by-second same f s w = rw (sym same) (record { first = f; second = s; puts = w }
 try-at-requires : tie.Need-try-at-requires
 try-at-requires c κs =
     let p = c .before .before .before .before .before .before .before .pre in
-    (p .0, p .5, rw (c .before .place-of .ensures) (place-below _ _ _ (p .7) refl), p .2)
+    (p .0, p .3, rw (c .before .place-of .ensures) (place-below _ _ _ (p .5) refl), p .2)
 
 returns : tie.Need-returns
 returns c = inl (record { comes = rw (c .enum-told .given .1, c .before .before .before .before .before .before .place-of .ensures, c .before .before .before .before .before .before .before .stirred .ensures, c .before .before .before .before .before .before .before .before .key-at .ensures) at (c .before .before .before .before .try-at .ensures); entry = refl; count = refl })
@@ -34,7 +34,7 @@ repeats-at-requires : tie.Need-repeats-at-requires
 repeats-at-requires c κs =
     let p = c .before .before .before .before .before .before .before .before .before .before .before .before .before .before .pre in
     let q = rw (c .before .before .enum-told3 .given .1) at (c .before .before .before .before .before .before .try-at .ensures) in
-    (p .0, λ a. rw (q .0) (p .5 a), rw (c .before .before .before .before .before .before .before .before .place-of .ensures) (place-below _ _ _ (p .7) (c .before .before .before .before .before .place .given)), rw (c .before .place-of2 .ensures) (place-below _ _ _ (p .7) (c .before .before .before .before .before .place .given)), q .1)
+    (p .0, λ a. rw (q .0) (p .3 a), rw (c .before .before .before .before .before .before .before .before .place-of .ensures) (place-below _ _ _ (p .5) (c .before .before .before .before .before .place .given)), rw (c .before .place-of2 .ensures) (place-below _ _ _ (p .5) (c .before .before .before .before .before .place .given)), q .1)
 
 returns-3 : tie.Need-returns-3
 returns-3 c =
@@ -45,7 +45,7 @@ stay-or-list-requires : tie.Need-stay-or-list-requires
 stay-or-list-requires c κs =
     let p = c .before .before .before .before .before .before .before .before .before .before .before .before .before .before .before .before .before .before .before .before .pre in
     let q = rw (c .before .before .before .before .before .before .before .before .enum-told3 .given .1) at (c .before .before .before .before .before .before .before .before .before .before .before .before .try-at .ensures) in
-    (rw (c .before .before .before .before .before .before .before .place-of2 .ensures) (place-below _ _ _ (p .7) (c .before .before .before .before .before .before .before .before .before .before .before .place .given)), p .8, p .9, p .2, λ a. rw (q .0) (p .6 a))
+    (rw (c .before .before .before .before .before .before .before .place-of2 .ensures) (place-below _ _ _ (p .5) (c .before .before .before .before .before .before .before .before .before .before .before .place .given)), p .6, p .7, p .2, λ a. rw (q .0) (p .4 a))
 
 returns-5 : tie.Need-returns-5
 returns-5 c =

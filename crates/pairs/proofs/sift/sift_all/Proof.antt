@@ -7,7 +7,7 @@ use lib.Dec.{ltb}
 use lib.ListN.{length}
 use borrow.Author.Tests.{ltb-true}
 use Rattle.numbers.proofs.Truth.{and-left}
-use Rattle.pairs.specs.Keys.{keyAt, word}
+use Rattle.pairs.specs.Keys.{keyAt}
 use Rattle.pairs.specs.Sifting.{Sifts}
 use Rattle.pairs.proofs.Spots.{places-as}
 use Rattle.pairs.proofs.Turns.{sifts-sifts}
@@ -16,25 +16,19 @@ use Rattle.pairs.proofs.sift.sift_all.Statement.{statement}
 use Rattle.pairs.proofs.sift.sift_all.Tie as tie
 
 abbrev Inv-loop : tie.InvT-loop
-Inv-loop records size key n list₀ place₀ shift other₀ s₀ lower₀ upper₀ turns₀ list place other s lower upper turns =
+Inv-loop records size key n list₀ place₀ shift other₀ s₀ turns₀ list place other s turns =
     (length list ≡ length list₀) × (length place ≡ length place₀) × (length other ≡ length other₀)
-    × (s .whole ≡ true → Sifts (keyAt key size records) n n (λ u. u) list (s .found) (s .left)) × (lower < word) × (upper < word)
+    × (s .whole ≡ true → Sifts (keyAt key size records) n n (λ u. u) list (s .found) (s .left))
 
 abbrev μ-loop : tie.MeasureT-loop
-μ-loop records size key n list₀ place₀ shift other₀ s₀ lower₀ upper₀ turns₀ list place other s lower upper turns = 16 - turns
+μ-loop records size key n list₀ place₀ shift other₀ s₀ turns₀ list place other s turns = 16 - turns
 
 -- what the loop's test tells
 taken-turns : (turns : ℕ) (more : Bool) → (ltb turns 16 && more) ≡ true → turns < 16
 taken-turns turns more h = ltb-true turns 16 (and-left (ltb turns 16) more h)
 
 loop-holds : tie.Need-loop-holds Inv-loop μ-loop
-loop-holds c = (refl, refl, refl, c .before .before .before .before .sift-once .ensures, omega arith, omega arith)
-
-mul-lower : tie.Need-mul-lower Inv-loop μ-loop
-mul-lower c = omega (arith, c .before .before .before .loop .inv .4)
-
-mul-upper : tie.Need-mul-upper Inv-loop μ-loop
-mul-upper c = omega (arith, c .before .before .before .loop .inv .5)
+loop-holds c = (refl, refl, refl, c .before .before .before .before .sift-once .ensures)
 
 to-sift-requires : tie.Need-to-sift-requires Inv-loop μ-loop
 to-sift-requires c κs = (omega (arith, c .before .before .before .before .before .before .before .before .before .before .before .before .before .before .before .before .pre .1, c .before .before .before .before .loop .inv .0, c .before .before .before .before .before .before .before .before .list .given), c .before .before .before .before .before .before .before .before .before .before .before .before .before .before .before .before .pre .0 .few)
@@ -50,8 +44,6 @@ sift-anew-requires c κs =
       w .fewer,
       places-as (l .inv .1 ∙ c .before .before .before .before .before .before .before .before .before .before .before .before .place .given) (p .2),
       places-as (l .inv .2) (p .4),
-      omega arith,
-      omega arith,
     )
 
 add-turns : tie.Need-add-turns Inv-loop μ-loop
@@ -68,8 +60,6 @@ loop-again c =
       c .before .before .before .before .place2 .given ∙ l .inv .1,
       c .before .before .other .given ∙ l .inv .2,
       λ q. rw (c .smaller .ensures) (sifts-sifts w (c .before .before .before .before .before .before .before .sift-anew .ensures q)),
-      omega arith,
-      omega arith,
     )
 
 same-length : tie.Need-same-length Inv-loop μ-loop
@@ -92,8 +82,6 @@ sift-all-spec =
     μ-loop
     (λ c κs. search needs)
     loop-holds
-    mul-lower
-    mul-upper
     to-sift-requires
     sift-anew-requires
     (λ c κs. search needs)

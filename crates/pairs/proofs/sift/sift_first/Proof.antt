@@ -17,7 +17,7 @@ use Rattle.pairs.proofs.sift.sift_first.Tie as tie
 abbrev Inv-loop : tie.InvT-loop
 Inv-loop records size key n list₀ place₀ shift left₀ i₀ list place left i =
     (i ≤ n) × (length list ≡ length list₀) × (length place ≡ length place₀)
-    × Sifting (keyAt key size records) (spotOf 2_654_435_761 1_973_900_851 shift) (λ u. u) place list i left
+    × Sifting (keyAt key size records) (spotOf shift) (λ u. u) place list i left
 
 abbrev μ-loop : tie.MeasureT-loop
 μ-loop records size key n list₀ place₀ shift left₀ i₀ list place left i = n - i
@@ -33,8 +33,6 @@ try-both-requires c κs =
       p .0 .wide (omega (arith, h)),
       omega (arith, p .0 .whole, h),
       omega (arith, p .0 .few, h),
-      omega arith,
-      omega arith,
       λ a. le-trans (held-few (l .inv .3) (record { below = λ u k. k; rising = λ u v k j. k }) h a) (p .0 .whole),
       λ a. le-trans (held-few (l .inv .3) (record { below = λ u k. k; rising = λ u v k j. k }) h a) (p .0 .few),
       places-as (l .inv .2) (p .2),
@@ -62,7 +60,7 @@ loop-again c =
       omega (arith, h),
       c .before .before .before .before .list .given ∙ l .inv .1,
       c .before .before .before .before .before .before .place .given ∙ l .inv .2,
-      tried (l .inv .3) refl (spot-below _ _ _ (p .2) (l .inv .2)) (omega (arith, p .1, h, l .inv .1, l .inv .3 .fewer)) (λ u k. k) q,
+      tried (l .inv .3) refl (spot-below _ (p .2) (l .inv .2)) (omega (arith, p .1, h, l .inv .1, l .inv .3 .fewer)) (λ u k. k) q,
     )
 
 returns-3 : tie.Need-returns-3 Inv-loop μ-loop

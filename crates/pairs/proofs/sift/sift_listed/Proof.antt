@@ -15,12 +15,12 @@ use Rattle.pairs.proofs.sift.sift_listed.Statement.{statement}
 use Rattle.pairs.proofs.sift.sift_listed.Tie as tie
 
 abbrev Inv-loop : tie.InvT-loop
-Inv-loop records size key n list₀ m lower upper place₀ shift left₀ t₀ list place left t =
+Inv-loop records size key n list₀ m seed place₀ shift left₀ t₀ list place left t =
     (t ≤ m) × (length list ≡ length list₀) × (length place ≡ length place₀)
-    × Sifting (keyAt key size records) (λ b x. spotOf lower upper shift b (stirredBy true lower upper x)) (at list₀) place list t left × Ahead (at list₀) list t
+    × Sifting (keyAt key size records) (λ b x. spotOf shift b (stirredBy true seed x)) (at list₀) place list t left × Ahead (at list₀) list t
 
 abbrev μ-loop : tie.MeasureT-loop
-μ-loop records size key n list₀ m lower upper place₀ shift left₀ t₀ list place left t = m - t
+μ-loop records size key n list₀ m seed place₀ shift left₀ t₀ list place left t = m - t
 
 loop-holds : tie.Need-loop-holds Inv-loop μ-loop
 loop-holds c = (omega arith, refl, refl, sifting-start (c .before .before .before .pre .5), λ u h. refl)
@@ -35,8 +35,6 @@ try-both-requires c κs =
       p .0 .wide (omega (arith, k)),
       omega (arith, p .0 .whole, k, is),
       omega (arith, p .0 .few, k, is),
-      p .6,
-      p .7,
       λ a. le-trans (held-few (l .inv .3) (p .1) h a) (p .0 .whole),
       λ a. le-trans (held-few (l .inv .3) (p .1) h a) (p .0 .few),
       places-as (l .inv .2) (p .4),
@@ -66,7 +64,7 @@ loop-again c =
       omega (arith, h),
       c .before .before .before .before .list .given ∙ l .inv .1,
       c .before .before .before .before .before .before .place .given ∙ l .inv .2,
-      tried (l .inv .3) is (spot-below _ _ _ (p .4) (l .inv .2)) (omega (arith, p .2, h, l .inv .1, l .inv .3 .fewer)) (λ u k. p .1 .rising u (l .t) k h) q,
+      tried (l .inv .3) is (spot-below _ (p .4) (l .inv .2)) (omega (arith, p .2, h, l .inv .1, l .inv .3 .fewer)) (λ u k. p .1 .rising u (l .t) k h) q,
       ahead (l .inv .3 .fewer) (l .inv .4) q,
     )
 
