@@ -186,17 +186,7 @@ fn sift_anew(
     let seed = seed_of(records, size, key, n, list, m, turn);
     if m <= n / 16 {
         clear(other);
-        return sift_listed(
-            records,
-            size,
-            key,
-            n,
-            list,
-            m,
-            seed,
-            other,
-            shift + 4,
-        );
+        return sift_listed(records, size, key, n, list, m, seed, other, shift + 4);
     }
     clear(place);
     sift_listed(records, size, key, n, list, m, seed, place, shift)

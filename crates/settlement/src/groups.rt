@@ -137,14 +137,14 @@ fn work_group(
     finals: &[u32; DayFile::MAX_MARKS],
     n: usize,
     i: usize,
+    g: [usize; GROUP],
     a: &mut [i64; DayFile::MAX_MARKS],
     done: &mut [bool; DayFile::MAX_MARKS],
 )
-    requires { ⌜ ((i < n) × (n ≤ fileLimits .marks)) × (n ≡ length (marksIn (now marks))) ⌝ }
+    requires { ⌜ ((i < n) × (n ≤ fileLimits .marks)) × (n ≡ length (marksIn (now marks))) × Grouped (marksIn (now marks)) n i g ⌝ }
     ensures { λ r. ⌜ Works (changesOf (marksIn (now (marks .entry))) (lastOf (now (finals .entry))))
         i (now (a .entry)) (now (done .entry)) (now (a .exit)) (now (done .exit)) ⌝ }
 {
-    let g = group(marks, done, n, i);
     let p = lane_prices(marks, finals, g);
     let v = values_or_zero(mark_at(marks, i).code, p);
     write_group(g, v, a, done);
@@ -169,7 +169,7 @@ fn change(marks: &[u8], finals: &[u32; DayFile::MAX_MARKS], i: usize) -> i64
     difference(last, previous)
 }
 
-// Works the change of a mark that is not done, a bond with others of its product.
+// Works the change of a mark that is not done, a bond with others of its product if there are any.
 fn work(
     marks: &[u8],
     finals: &[u32; DayFile::MAX_MARKS],
@@ -186,8 +186,11 @@ fn work(
         return;
     }
     if is_bond(mark_at(marks, i).code) {
-        work_group(marks, finals, n, i, a, done);
-        return;
+        let g = group(marks, done, n, i);
+        if g[1] != i {
+            work_group(marks, finals, n, i, g, a, done);
+            return;
+        }
     }
     a[i] = change(marks, finals, i);
 }

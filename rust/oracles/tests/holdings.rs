@@ -105,9 +105,6 @@ const SIZES: [usize; 5] = [32, 128, 512, 1_024, MAX_POSITIONS];
 const LOWER: u32 = 2_654_435_761;
 const UPPER: u32 = 1_973_900_851;
 
-/// Where a list is sifted anew, the first is multiplied by this, and the second by the first as it was at the start.
-const ANEW: u32 = 2_246_822_519;
-
 /// A position whose first place in the library's first sifting goes by a number: 0 is the first of all places, and the
 /// highest of 32 bits the last.
 fn at_place(number: u32, mark: u32) -> Holding {
@@ -190,18 +187,13 @@ fn told(day: &Day) -> Option<usize> {
     Some(index)
 }
 
-/// The position that is found for check 16 by itself.
-fn found(day: &Day) -> Option<usize> {
-    find(&day.bytes(), 16)
-}
-
 /// Of these positions none repeats another; where one is made to, or two are, the first of them is answered.
-fn assert_first(answer: fn(&Day) -> Option<usize>, holdings: &[Holding]) {
+fn assert_first(holdings: &[Holding]) {
     let whole = day_with(MAX_MARKS, holdings);
     let with = |repeats: &[(usize, usize)]| {
         let mut day = whole.clone();
         repeats.iter().for_each(|&(earlier, later)| repeat(&mut day, earlier, later));
-        answer(&day)
+        told(&day)
     };
     assert_eq!(with(&[]), None);
     let middle = holdings.len() / 2;
@@ -217,12 +209,12 @@ fn assert_first(answer: fn(&Day) -> Option<usize>, holdings: &[Holding]) {
     }
 }
 
-/// Few stay: all are sifted anew by other factors, or in a short list those that are left.
+/// Few stay: all are sifted anew by a seed, or in a short list those that are left.
 #[test]
 fn both_places_crowded() {
     for crowded in [1 << 22, 1 << 26].map(crowded) {
         for count in SIZES {
-            assert_first(told, &crowded[..count]);
+            assert_first(&crowded[..count]);
         }
     }
 }
@@ -233,31 +225,27 @@ fn both_places_crowded() {
 fn crowded_among_ordinary() {
     for crowded in [1 << 22, 1 << 26].map(crowded) {
         for count in SIZES {
-            assert_first(told, &mixed(&crowded[..count], |index| index % 2 == 0));
+            assert_first(&mixed(&crowded[..count], |index| index % 2 == 0));
             for ordinary in [count * 3 / 16, count * 5 / 16, count / 3, count / 2, count * 7 / 8] {
-                assert_first(told, &mixed(&crowded[..count], |index| index < ordinary));
+                assert_first(&mixed(&crowded[..count], |index| index < ordinary));
             }
         }
     }
 }
 
-/// The numbers that the two places of a position go by, where it is sifted anew for so many times.
-fn numbers_anew((account, mark, _): Holding, times: u32) -> [u32; 2] {
-    let lower = LOWER.wrapping_mul(ANEW.wrapping_pow(times));
-    let upper = UPPER.wrapping_mul(LOWER.wrapping_pow(times));
-    let product = u64::from(account.wrapping_add(lower)) * u64::from(mark.wrapping_add(upper));
-    let (low, high) = (product as u32, (product >> 32) as u32);
-    [(lower, upper), (upper, lower)].map(|(a, b)| low.wrapping_mul(a).wrapping_add(high.wrapping_mul(b)))
-}
-
-/// The last quarter is crowded in the first three siftings: few of it stay there, where many are left early or late.
+/// Later siftings go by a seed, which all the positions that are left make. Of many short lists that are crowded in the
+/// first, some leave a few in each of the next ones too. Some positions repeat others.
 #[test]
-fn crowded_anew() {
-    let is_crowded = |holding, times| numbers_anew(holding, times).iter().all(|&number| number < 1 << 29);
-    let is_left = |&holding: &Holding| is_crowded(holding, 1) && is_crowded(holding, 2);
-    let crowded: Vec<Holding> = (0..).map(at_one_place).filter(is_left).take(MAX_POSITIONS).collect();
-    for count in SIZES {
-        assert_first(found, &mixed(&crowded[..count], |index| index < count * 3 / 4));
+fn short_lists_anew() {
+    let (mut random, crowded) = (Random::new(134_775_813), crowded(1 << 22));
+    for _ in 0..40_000 {
+        let (count, start) = (9 + random.below(40), random.below(MAX_POSITIONS - 64));
+        let mut day = day_with(MAX_MARKS, &crowded[start..start + count]);
+        for _ in 0..random.below(3) {
+            let later = 1 + random.below(count - 1);
+            repeat(&mut day, random.below(later), later);
+        }
+        assert_eq!(told(&day), first_repeated(&day.positions));
     }
 }
 

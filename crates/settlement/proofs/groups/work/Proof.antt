@@ -20,8 +20,13 @@ returns c =
     let a = c .before .before .before .args in
     works-done (changesOf (marksIn (a .marks .now)) (lastOf (a .finals .now))) (c .if1 .taken)
 
+group-requires : tie.Need-group-requires
+group-requires c κs = c .before .before .before .before .before .before .before .pre .0
+
 work-group-requires : tie.Need-work-group-requires
-work-group-requires c κs = c .before .before .before .before .before .before .before .before .pre
+work-group-requires c κs =
+    let p = c .before .before .before .before .before .before .before .before .before .before .before .pre in
+    (p .0, p .1, c .before .before .before .group .ensures)
 
 returns-2 : tie.Need-returns-2
 returns-2 c = c .work-group .ensures
@@ -46,6 +51,8 @@ work-spec =
     returns
     (λ c κs. search needs)
     (λ c κs. search needs)
+    group-requires
+    (λ c. search needs)
     work-group-requires
     returns-2
     change-requires
