@@ -33,9 +33,13 @@ secondPlace = placeOf 1_973_900_851 2_654_435_761
 abbrev pub multiples : ℕ → ℕ
 multiples y = bitXor (y % word * 2_246_822_519) (y / word * 3_266_489_917)
 
+-- its lower bits, changed by higher ones
+abbrev pub folded : ℕ → ℕ
+folded z = bitXor z (z / 2 ^ 29)
+
 -- what a key's places are made of: the key, or multiples of its halves with a seed
 abbrev pub stirredBy : Bool → ℕ → ℕ → ℕ
-stirredBy true seed x = multiples (bitXor x seed)
+stirredBy true seed x = folded (multiples (bitXor x seed))
 stirredBy false seed x = x
 
 -- a list has room for all these places

@@ -32,13 +32,14 @@ fn place_of(x: u64, lower: u64, upper: u64, shift: u32) -> usize
 }
 
 // What a key's places are made of: the key, or where a list is sifted anew, two multiples of its halves after a seed has changed some of its
-// bits.
+// bits. Their higher bits change the lower ones, so that what is alike in keys, as equal steps from one to the next, is not alike any more.
 fn stirred(x: u64, seed: u64, anew: bool) -> u64
     ensures { λ r. ⌜ r ≡ stirredBy anew seed x ⌝ }
 {
     if anew {
         let y = x ^ seed;
-        (y % WORD * LOW) ^ (y / WORD * HIGH)
+        let z = (y % WORD * LOW) ^ (y / WORD * HIGH);
+        z ^ (z >> 29)
     } else {
         x
     }
@@ -120,11 +121,11 @@ fn stay_or_list(place: &mut [u16], spot: usize, i: usize, list: &mut [u16], left
     one_more(left, held)
 }
 
-// Whether to give up at record t of m: many are left early, so that it takes less time to sift all by other places. No answer depends on it.
-fn gives_up(left: usize, t: usize, m: usize) -> bool
+// Whether to give up at record t: many are left among the first ones, so that it takes less time to sift all anew. No answer depends on it.
+fn gives_up(left: usize, t: usize, early: usize) -> bool
     ensures { λ _. ⊤ₛ }
 {
-    (48 < left) & (t < m / 3)
+    (48 < left) & (t < early)
 }
 
 // What comes of a record: it repeats another; or too many are left; or so many are.
@@ -134,7 +135,7 @@ pub enum Step {
     Left(usize),
 }
 
-// Lets record i try its two places, the one at t of m that are sifted; for the second place the two numbers change their parts.
+// Lets record i try its two places, the one at t of those that are sifted; for the second place the two factors change their parts.
 pub(crate) fn try_both(
     records: &[u8],
     size: usize,
@@ -147,7 +148,7 @@ pub(crate) fn try_both(
     list: &mut [u16],
     left: usize,
     t: usize,
-    m: usize,
+    early: usize,
 ) -> Step
     requires { ⌜ (widthOf key ≤ size) × (i < length (now records) / size) × (i < most)
         × (Held (length (now records) / size) (now place)) × (Held most (now place)) × (Places shift (now place))
@@ -172,7 +173,7 @@ pub(crate) fn try_both(
     if repeats_at(records, size, key, place, first, second, x) {
         return Step::Repeated;
     }
-    if gives_up(left, t, m) {
+    if gives_up(left, t, early) {
         return Step::GivenUp;
     }
     Step::Left(stay_or_list(place, second, i, list, left))

@@ -27,7 +27,7 @@ pub struct Sifted {
     pub whole: bool,
 }
 
-// Sifts all of n records by places that are empty. The list then has those that are left, unless it gives up.
+// Sifts all of n records by places that are empty. The list then has those that are left, unless it gives up in their first third.
 fn sift_first(
     records: &[u8],
     size: usize,
@@ -55,7 +55,7 @@ fn sift_first(
             list,
             left,
             i,
-            n,
+            n / 3,
         ) {
             Step::Repeated => {
                 return Sifted {
@@ -103,7 +103,7 @@ fn sift_once(
     }
 }
 
-// Sifts the m records of a list so.
+// Sifts the m records of a list so, by a seed, and does not give up.
 fn sift_listed(
     records: &[u8],
     size: usize,
@@ -136,7 +136,7 @@ fn sift_listed(
             list,
             left,
             t,
-            m,
+            0,
         ) {
             Step::Repeated => {
                 return Sifted {

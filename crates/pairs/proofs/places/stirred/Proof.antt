@@ -7,8 +7,8 @@ use borrow.Author.Needs.{needs}
 use Rattle.pairs.proofs.places.stirred.Statement.{statement}
 use Rattle.pairs.proofs.places.stirred.Tie as tie
 
-mul-result-2 : tie.Need-mul-result-2
-mul-result-2 c = let a = c .before .args in omega (arith, xor-lt 64 (a .x) (a .seed) (omega (arith, c .before .fits)) (omega (arith, c .before .fits)))
+mul-z-2 : tie.Need-mul-z-2
+mul-z-2 c = let a = c .before .args in omega (arith, xor-lt 64 (a .x) (a .seed) (omega (arith, c .before .fits)) (omega (arith, c .before .fits)))
 
 returns : tie.Need-returns
 returns c = rw (c .if1 .taken) refl
@@ -18,6 +18,6 @@ stirred-spec =
     tie.close
     (tie.spec
     (λ c. search needs)
-    mul-result-2
+    mul-z-2
     returns
     (λ c. search needs))
