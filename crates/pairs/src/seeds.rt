@@ -54,8 +54,8 @@ fn stir(m: Mix) -> Mix
     }
 }
 
-// One number is mixed in.
-fn mixed_in(m: Mix, x: u64) -> Mix
+// One key is mixed in.
+fn with_key(m: Mix, x: u64) -> Mix
     ensures { λ _. ⊤ₛ }
 {
     let s = stir(Mix {
@@ -85,16 +85,7 @@ fn drawn(m: Mix) -> u64
     s.a ^ s.b ^ s.c ^ s.d
 }
 
-// The next of m entries, or the last one again.
-fn next_or_last(t: usize, m: usize) -> usize
-    requires { ⌜ t < m ⌝ }
-    ensures { λ r. ⌜ r < m ⌝ }
-{
-    if t + 1 < m { t + 1 } else { t }
-}
-
-// The seed of m listed records, in a turn. The keys are mixed in by two: they have few bits at their upper ends, where the second one's lower
-// half comes.
+// The seed of m listed records, in a turn.
 pub(crate) fn seed_of(
     records: &[u8],
     size: usize,
@@ -115,10 +106,8 @@ pub(crate) fn seed_of(
     };
     let mut t = 0;
     while t < m {
-        let x = key_at(records, size, key, wide(list[t]));
-        let y = key_at(records, size, key, wide(list[next_or_last(t, m)]));
-        mix = mixed_in(mix, x ^ turned(y, 32));
-        t += 2;
+        mix = with_key(mix, key_at(records, size, key, wide(list[t])));
+        t += 1;
     }
     drawn(mix)
 }

@@ -1,12 +1,12 @@
 -- Each listed record is one of the records.
-use Prim.Native.Nat.{_+_, _≤_, _-_}
+use Prim.Native.Nat.{_≤_, _-_}
 use native.Mathlib.Omega.{arith}
 use borrow.Author.Needs.{needs}
 use Rattle.pairs.proofs.seeds.seed_of.Statement.{statement}
 use Rattle.pairs.proofs.seeds.seed_of.Tie as tie
 
 abbrev Inv-loop : tie.InvT-loop
-Inv-loop records size key n list m turn mix₀ t₀ mix t = t ≤ m + 1
+Inv-loop records size key n list m turn mix₀ t₀ mix t = t ≤ m
 
 abbrev μ-loop : tie.MeasureT-loop
 μ-loop records size key n list m turn mix₀ t₀ mix t = m - t
@@ -16,15 +16,6 @@ key-at-requires c κs =
     let p = c .before .before .before .before .before .before .pre in
     let k = p .1 .below _ (c .before .before .loop-test .taken) in
     (p .0 .wide (omega (arith, k)), omega (arith, p .0 .whole, k, c .wide .ensures))
-
-shared-slice-read-wide-2 : tie.Need-shared-slice-read-wide-2 Inv-loop μ-loop
-shared-slice-read-wide-2 c = omega (arith, c .before .next-or-last .ensures, c .before .before .before .before .before .before .before .before .before .pre .2)
-
-key-at-requires-2 : tie.Need-key-at-requires-2 Inv-loop μ-loop
-key-at-requires-2 c κs =
-    let p = c .before .before .before .before .before .before .before .before .before .before .pre in
-    let k = p .1 .below _ (c .before .before .next-or-last .ensures) in
-    (p .0 .wide (omega (arith, k)), omega (arith, p .0 .whole, k, c .wide2 .ensures))
 
 pub seed-of-spec : {M : Type 1} → statement M
 seed-of-spec =
@@ -37,12 +28,6 @@ seed-of-spec =
     (λ c. search needs)
     (λ c κs. search needs)
     key-at-requires
-    (λ c κs. search needs)
-    (λ c. search needs)
-    shared-slice-read-wide-2
-    (λ c κs. search needs)
-    key-at-requires-2
-    (λ c κs. search needs)
     (λ c κs. search needs)
     (λ c. search needs)
     (λ c. search needs)
