@@ -5,10 +5,11 @@ use mathlib.Core.List.{List}
 use Prim.Native.Nat.{ℕ, suc, _+_, _-_, _*_, _/_, _%_, _<_, _≤_, _^_}
 use native.Mathlib.Nat.{lt-of-lt-of-le, div-lt-iff-lt-mul}
 use native.Mathlib.Omega.{arith}
-use lib.ListN.{length, getD, set, replicate, length-replicate}
+use lib.ListN.{length, getD, set, take, replicate, length-replicate}
+use lib.Seq.{length-take-le}
 use lib.Pow.{pow-pos}
 use Rattle.pairs.specs.Keys.{word}
-use Rattle.pairs.specs.Sifting.{placeOf, firstPlace, secondPlace, Places, Another}
+use Rattle.pairs.specs.Sifting.{placeOf, firstPlace, secondPlace, Places, Sixteenth, Another}
 use Rattle.pairs.proofs.Trees.{after-set}
 
 -- the two places of a key
@@ -31,9 +32,22 @@ spot-below x p all false = place-below _ _ x p all
 pub places-in : (shift places : ℕ) → shift < 64 → word ≤ places * 2 ^ shift → Places shift (replicate places 0)
 places-in shift places short room = let z : ℕ = 0 in record { short = short; room = rw (length-replicate places z) room }
 
+pub sixteenth-in : (shift places : ℕ) → shift + 4 < 64 → word ≤ places / 16 * 2 ^ (shift + 4) → Sixteenth shift (replicate places 0)
+sixteenth-in shift places short room = let z : ℕ = 0 in record { short = short; room = rw (length-replicate places z) room }
+
 -- as many places as before
 pub places-as : {shift : ℕ} {list now : List ℕ} → length now ≡ length list → Places shift list → Places shift now
 places-as q p = record { short = p .short; room = rw q (p .room) }
+
+pub sixteenth-as : {shift : ℕ} {list now : List ℕ} → length now ≡ length list → Sixteenth shift list → Sixteenth shift now
+sixteenth-as q p = record { short = p .short; room = rw q (p .room) }
+
+-- the first sixteenth of a list
+pub few-of : (list : List ℕ) → length list / 16 ≡ length (take (length list / 16) list)
+few-of list = sym (length-take-le (length list / 16) list (omega arith))
+
+pub places-few : {shift : ℕ} {list : List ℕ} → Sixteenth shift list → Places (shift + 4) (take (length list / 16) list)
+places-few {list = list} p = record { short = p .short; room = rw (sym (few-of list)) (p .room) }
 
 -- what is read at a place that is not empty is the number of a record and one
 pub holder : {w x : ℕ} → w ≡ x → (w ≡ 0 → ⊥) → x ≡ suc (w - 1)

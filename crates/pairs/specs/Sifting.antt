@@ -47,6 +47,11 @@ pub record Places (shift : ℕ) (list : List ℕ) : Type 0 where
   pub short : shift < 64
   pub room : word ≤ length list * 2 ^ shift
 
+-- a sixteenth of it has room for a sixteenth of them
+pub record Sixteenth (shift : ℕ) (list : List ℕ) : Type 0 where
+  pub short : shift + 4 < 64
+  pub room : word ≤ length list / 16 * 2 ^ (shift + 4)
+
 -- each place is empty or has one of n records: the entry is 0, or one more than the record's index
 abbrev pub Held : ℕ → List ℕ → Type 0
 Held n places = (a : ℕ) → getD places a 0 ≤ n

@@ -13,7 +13,7 @@ ghost use Rattle.numbers.specs.Folds.{first, repeating};
 ghost use Rattle.pairs.specs.Keys.{keyAt, lookedAt, sameKeyIn};
 ghost use Rattle.pairs.specs.Walks.{Keyed, Zeros};
 ghost use Rattle.pairs.specs.Indices.{FirstOf};
-ghost use Rattle.pairs.specs.Sifting.{foundAt, Places, Tries};
+ghost use Rattle.pairs.specs.Sifting.{foundAt, Places, Sixteenth, Tries};
 
 // What comes of a search: the index of the first record that repeats an earlier one, or the number of all records; or no answer.
 pub enum Tried {
@@ -70,13 +70,12 @@ fn first_in(
     list: &mut [u16],
     place: &mut [u16],
     shift: u32,
-    other: &mut [u16],
 ) -> Tried
     requires { ⌜ (Keyed key size (now records) n) × (n ≤ length (now list)) × (Places shift (now place)) × (Zeros (now place))
-        × Places (shift + 4) (now other) ⌝ }
+        × Sixteenth shift (now place) ⌝ }
     ensures { λ r. ⌜ Tries (FirstOf (keyAt key size (now (records .entry))) (λ u. u) n n) r ⌝ }
 {
-    let s = sift_all(records, size, key, n, list, place, shift, other);
+    let s = sift_all(records, size, key, n, list, place, shift);
     if s.whole & (s.left == 0) {
         Tried::Answered(smaller(n, s.found))
     } else {
@@ -91,17 +90,7 @@ fn first_small(records: &[u8], size: usize, key: Key, n: usize) -> Tried
 {
     let mut list = [0u16; SMALL];
     let mut place = [0u16; SMALL_PLACES];
-    let mut other = [0u16; SMALL / 2];
-    first_in(
-        records,
-        size,
-        key,
-        n,
-        &mut list,
-        &mut place,
-        SMALL_SHIFT,
-        &mut other,
-    )
+    first_in(records, size, key, n, &mut list, &mut place, SMALL_SHIFT)
 }
 
 // At most SHORT.
@@ -111,17 +100,7 @@ fn first_short(records: &[u8], size: usize, key: Key, n: usize) -> Tried
 {
     let mut list = [0u16; SHORT];
     let mut place = [0u16; SHORT_PLACES];
-    let mut other = [0u16; SHORT / 2];
-    first_in(
-        records,
-        size,
-        key,
-        n,
-        &mut list,
-        &mut place,
-        SHORT_SHIFT,
-        &mut other,
-    )
+    first_in(records, size, key, n, &mut list, &mut place, SHORT_SHIFT)
 }
 
 // At most MIDDLE.
@@ -131,17 +110,7 @@ fn first_middle(records: &[u8], size: usize, key: Key, n: usize) -> Tried
 {
     let mut list = [0u16; MIDDLE];
     let mut place = [0u16; MIDDLE_PLACES];
-    let mut other = [0u16; MIDDLE / 2];
-    first_in(
-        records,
-        size,
-        key,
-        n,
-        &mut list,
-        &mut place,
-        MIDDLE_SHIFT,
-        &mut other,
-    )
+    first_in(records, size, key, n, &mut list, &mut place, MIDDLE_SHIFT)
 }
 
 // At most LARGE.
@@ -151,17 +120,7 @@ fn first_large(records: &[u8], size: usize, key: Key, n: usize) -> Tried
 {
     let mut list = [0u16; LARGE];
     let mut place = [0u16; LARGE_PLACES];
-    let mut other = [0u16; LARGE / 2];
-    first_in(
-        records,
-        size,
-        key,
-        n,
-        &mut list,
-        &mut place,
-        LARGE_SHIFT,
-        &mut other,
-    )
+    first_in(records, size, key, n, &mut list, &mut place, LARGE_SHIFT)
 }
 
 // As many as are looked at.
@@ -171,17 +130,7 @@ fn first_of_most(records: &[u8], size: usize, key: Key, n: usize) -> Tried
 {
     let mut list = [0u16; MOST];
     let mut place = [0u16; MOST_PLACES];
-    let mut other = [0u16; MOST / 4];
-    first_in(
-        records,
-        size,
-        key,
-        n,
-        &mut list,
-        &mut place,
-        MOST_SHIFT,
-        &mut other,
-    )
+    first_in(records, size, key, n, &mut list, &mut place, MOST_SHIFT)
 }
 
 // The same with the shortest arrays that will do.

@@ -10,12 +10,12 @@ use crate::places::try_both;
 use crate::seeds::seed_of;
 ghost use mathlib.Core.Path.{_≡_};
 ghost use mathlib.Core.Bool.{true};
-ghost use Prim.Native.Nat.{_+_, _≤_};
+ghost use Prim.Native.Nat.{_≤_};
 ghost use lib.ListN.{length};
 ghost use Rattle.pairs.specs.Keys.{keyAt, most};
 ghost use Rattle.pairs.specs.Walks.{Keyed, Zeros};
 ghost use Rattle.pairs.specs.Indices.{at, Rising};
-ghost use Rattle.pairs.specs.Sifting.{Places, Sifts, Next};
+ghost use Rattle.pairs.specs.Sifting.{Places, Sixteenth, Sifts, Next};
 
 // So often at most.
 const TURNS: u64 = 16;
@@ -165,7 +165,31 @@ fn sift_listed(
     }
 }
 
-// Sifts the m records of a list by a seed that their keys make, and places that are cleared before: few of them by a sixteenth of the places.
+// Sifts them by places that are cleared before, with a loop of its own for each width of keys.
+fn sift_cleared(
+    records: &[u8],
+    size: usize,
+    key: Key,
+    n: usize,
+    list: &mut [u16],
+    m: usize,
+    seed: u64,
+    place: &mut [u16],
+    shift: u32,
+) -> Sifted
+    requires { ⌜ (Keyed key size (now records) n) × (Rising n m (at (now list))) × (m ≤ length (now list)) × (m ≤ n)
+        × Places shift (now place) ⌝ }
+    ensures { λ r. ⌜ (r .whole ≡ true → Sifts (keyAt key size (now (records .entry))) n m (at (now (list .entry))) (now (list .exit))
+        (r .found) (r .left)) ⌝ }
+{
+    clear(place);
+    match key {
+        Key::Four => sift_listed(records, size, Key::Four, n, list, m, seed, place, shift),
+        Key::Eight => sift_listed(records, size, Key::Eight, n, list, m, seed, place, shift),
+    }
+}
+
+// Sifts them by a seed that their keys make: few of them by a sixteenth of the places.
 fn sift_anew(
     records: &[u8],
     size: usize,
@@ -176,20 +200,28 @@ fn sift_anew(
     turn: u64,
     place: &mut [u16],
     shift: u32,
-    other: &mut [u16],
 ) -> Sifted
     requires { ⌜ (Keyed key size (now records) n) × (Rising n m (at (now list))) × (m ≤ length (now list)) × (m ≤ n)
-        × (Places shift (now place)) × Places (shift + 4) (now other) ⌝ }
+        × (Places shift (now place)) × Sixteenth shift (now place) ⌝ }
     ensures { λ r. ⌜ (r .whole ≡ true → Sifts (keyAt key size (now (records .entry))) n m (at (now (list .entry))) (now (list .exit))
         (r .found) (r .left)) ⌝ }
 {
     let seed = seed_of(records, size, key, n, list, m, turn);
     if m <= n / 16 {
-        clear(other);
-        return sift_listed(records, size, key, n, list, m, seed, other, shift + 4);
+        let few = place.len() / 16;
+        return sift_cleared(
+            records,
+            size,
+            key,
+            n,
+            list,
+            m,
+            seed,
+            &mut place[..few],
+            shift + 4,
+        );
     }
-    clear(place);
-    sift_listed(records, size, key, n, list, m, seed, place, shift)
+    sift_cleared(records, size, key, n, list, m, seed, place, shift)
 }
 
 // What is to be sifted next: those that are left, or all again where it gave up.
@@ -217,28 +249,16 @@ pub(crate) fn sift_all(
     list: &mut [u16],
     place: &mut [u16],
     shift: u32,
-    other: &mut [u16],
 ) -> Sifted
     requires { ⌜ (Keyed key size (now records) n) × (n ≤ length (now list)) × (Places shift (now place)) × (Zeros (now place))
-        × Places (shift + 4) (now other) ⌝ }
+        × Sixteenth shift (now place) ⌝ }
     ensures { λ r. ⌜ (r .whole ≡ true → Sifts (keyAt key size (now (records .entry))) n n (λ u. u) (now (list .exit)) (r .found) (r .left)) ⌝ }
 {
     let mut s = sift_once(records, size, key, n, list, place, shift);
     let mut turns = 0u64;
     while (turns < TURNS) & (!s.whole | (0 < s.left)) {
         let all = to_sift(list, n, s);
-        let anew = sift_anew(
-            records,
-            size,
-            key,
-            n,
-            list,
-            all.left,
-            turns,
-            place,
-            shift,
-            other,
-        );
+        let anew = sift_anew(records, size, key, n, list, all.left, turns, place, shift);
         s = Sifted {
             found: smaller(anew.found, all.found),
             left: anew.left,

@@ -9,7 +9,7 @@ use Rattle.pairs.proofs.first.first_in.Tie as tie
 
 returns : tie.Need-returns
 returns c =
-    let s = c .before .before .before .before .before .before .before .before .before .before .sift-all in
+    let s = c .before .before .before .before .before .before .before .before .sift-all in
     let none = eqb-true (s .result .left) 0 (and-right (s .result .whole) (eqb (s .result .left) 0) (c .before .if1 .taken)) in
     let whole = and-left (s .result .whole) (eqb (s .result .left) 0) (c .before .if1 .taken) in
     rw (c .smaller .ensures) (s .ensures whole .answers _ (rw none first-of-none))
@@ -22,9 +22,7 @@ first-in-spec =
     (λ c κs. search needs)
     (λ c. search needs)
     (λ c. search needs)
-    (λ c. search needs)
     returns
-    (λ c. search needs)
     (λ c. search needs)
     (λ c. search needs)
     (λ c. search needs))
