@@ -5,7 +5,7 @@
 //!
 //! The number is that of the rounds. All kinds take turns within each round, and each kind is timed twice: `again` is the same file in
 //! each round, settled some times before the timed call; `new` is a file with other accounts of the kind, settled by the timed call alone.
-//! Accounts are chosen against the first turn of the search. The next turn's factors are made of the accounts that it sifts.
+//! Accounts are chosen against the first turn of the search. The places of the next ones go by a seed that all the accounts in its list make.
 
 use citronreef::records::{Day, MAX_CORRECTIONS, MAX_MARKS, MAX_POSITIONS};
 use citronreef::settle;
@@ -141,6 +141,59 @@ fn mixed<'a>(crowd: &'a [Holding], is_ordinary: impl Fn(usize) -> bool + 'a) -> 
     Box::new(move |random| drawn(|index| if is_ordinary(index) { ordinary(random) } else { random.pick(crowd) }))
 }
 
+/// What comes of a position in the first turn: it stays at its first place or at its second, or is left.
+#[derive(Clone, Copy, PartialEq)]
+enum Outcome {
+    First,
+    Second,
+    Left,
+}
+
+/// The two places of a holding in the first turn.
+fn places_of((account, mark): Holding) -> [usize; 2] {
+    let place = |a: u32, b: u32| (account.wrapping_mul(a).wrapping_add(mark.wrapping_mul(b)) / NUMBERS_OF_PLACE) as usize;
+    [place(LOWER, UPPER), place(UPPER, LOWER)]
+}
+
+/// The holdings of a full file, each with the outcome that is wanted for it.
+fn planned(random: &mut Random, wanted: impl Fn(usize, &mut Random) -> Outcome) -> Vec<Holding> {
+    let (mut is_taken, mut last) = (vec![false; PLACES], None);
+    drawn(|index| {
+        let outcome = match last {
+            Some((same, outcome)) if same == index => outcome,
+            _ => wanted(index, random),
+        };
+        last = Some((index, outcome));
+        loop {
+            let holding = ordinary(random);
+            let [first, second] = places_of(holding);
+            let (place, comes) = match (is_taken[first], is_taken[second]) {
+                (false, _) => (first, Outcome::First),
+                (true, false) => (second, Outcome::Second),
+                (true, true) => (second, Outcome::Left),
+            };
+            if comes == outcome {
+                is_taken[place] = true;
+                return holding;
+            }
+        }
+    })
+}
+
+/// In the first third it is a toss whether a position stays at its first place or at its second, so that no processor can guess it; of the
+/// others so many tenths are left.
+fn by_tosses(tenths: usize) -> Make<'static> {
+    const SOME: usize = 200;
+    Box::new(move |random| {
+        planned(random, |index, random| match index {
+            ..SOME => Outcome::First,
+            SOME..1_366 => random.pick(&[Outcome::First, Outcome::Second]),
+            _ if random.below(10) < tenths => Outcome::Left,
+            _ => Outcome::First,
+        })
+    })
+}
+
 /// The kinds of files by what they are called, each with what makes the holdings of one.
 fn kinds<'a>(crowd: &'a [Holding], wider: &'a [(usize, Vec<Holding>)]) -> Vec<(String, Make<'a>)> {
     let mut kinds: Vec<(String, Make)> = vec![
@@ -163,8 +216,11 @@ fn kinds<'a>(crowd: &'a [Holding], wider: &'a [(usize, Vec<Holding>)]) -> Vec<(S
         kinds.push(("the first third of these".into(), mixed(crowd, |index| index >= 1_365)));
         kinds.push(("these late, after 1366".into(), mixed(crowd, |index| index < 1_366)));
     }
-    for seconds in [64, 500, 1_000, 2_000, 2_500, 3_000, 3_500, 4_000, 5_000, 6_000, 7_000] {
+    for seconds in [64, 1_000, 3_000, 5_000, 7_000] {
         kinds.push((format!("one first, {seconds} second"), Box::new(move |random| one_first_place(random, seconds))));
+    }
+    for tenths in 3..=10 {
+        kinds.push((format!("tosses, {tenths}/10 left"), by_tosses(tenths)));
     }
     kinds
 }
@@ -236,7 +292,7 @@ fn kinds_with_times(rounds: usize) -> Vec<Kind> {
     let mut random = Random::new(88_172_645_463_325_252);
     let (crowd, day) = (crowd(), common_day(&mut random));
     let wider: Vec<(usize, Vec<Holding>)> =
-        [600, 1_500, 2_700, 3_500, 4_000, 5_000, 6_000].map(|count| (count, crowd_among(&mut random, count))).into();
+        [600, 1_500, 2_700, 4_000, 6_000].map(|count| (count, crowd_among(&mut random, count))).into();
     let mut kinds: Vec<Kind> = kinds(&crowd, &wider).into_iter().map(|kind| Kind::new(&mut random, &day, kind)).collect();
     let (mut file, mut amounts) = (day.bytes(), vec![0; MAX_POSITIONS]);
     for round in 0..rounds {
