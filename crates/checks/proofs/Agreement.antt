@@ -34,7 +34,7 @@ use Rattle.checks.specs.Marks.{MarkCheck, MarkCode, MarkDate, MarkLimit,
 use Rattle.checks.specs.Corrections.{Clash, clashing, clashPair, CorrectionCheck, CorrectionMark, CorrectionPrice, CorrectionClash, correctionChecks, tooManyCorrections, correctionListChecks}
 use Rattle.checks.specs.Positions.{badLots, SameHolding, sameHolding, holdingPair, PositionCheck, PositionMark, PositionLots, PositionRepeated}
 use Rattle.checks.specs.Positions.{positionChecks, tooManyPositions, positionListChecks}
-use Rattle.checks.specs.Judging.{recordChecks, fileChecks}
+use Rattle.checks.specs.Judging.{recordChecks, tooManyRecords, listChecks, fileChecks}
 
 -- ---- the product table
 
@@ -163,12 +163,22 @@ position-lists-agree l ms ps =
 
 -- ---- three lists, and a file
 
-records-agree : (ls : Lists) → Agree (recordChecks ls)
+pub records-agree : (ls : Lists) → Agree (recordChecks ls)
 records-agree ls =
     let c = correctionChecks (ls .marks) (ls .corrections) in
     let p = positionChecks (ls .marks) (ls .positions) in
     agree-before (markChecks (ls .marks)) (c before p) (marks-agree (ls .marks))
     (agree-before c p (corrections-agree (ls .marks) (ls .corrections)) (positions-agree (ls .marks) (ls .positions)))
+
+pub many-records : (l : Limits) (ls : Lists) → Tells (tooManyRecords l ls .test 0) (tooManyRecords l ls .Condition 0)
+many-records l ls =
+    let a = ltb (l .marks) (length (ls .marks)) in
+    let b = ltb (l .corrections) (length (ls .corrections)) in
+    tells-as or-three or-three-back (tells-or (a || b) _ (many (l .marks) (length (ls .marks)) (l .corrections) (length (ls .corrections))) (tells-lt _ _))
+
+pub lists-agree : (l : Limits) (ls : Lists) → Agree (listChecks l ls)
+lists-agree l ls =
+    agree-before (only (tooManyRecords l ls)) (recordChecks ls) (agree-only (tooManyRecords l ls) (λ i. many-records l ls)) (records-agree ls)
 
 pub file-agrees : (l : Limits) (f : List ℕ) → Agree (fileChecks l f)
 file-agrees l f = agree-before (headerChecks l f) (recordChecks (listsOfFile f)) (header-agrees l f) (records-agree (listsOfFile f))

@@ -5,7 +5,7 @@ use mathlib.Core.List.{List}
 use Prim.Native.Nat.{ℕ, _+_, _<_}
 use lib.ListN.{length}
 use Rattle.numbers.specs.Folds.{repeating, first, isSome}
-use Rattle.numbers.specs.Checks.{Checks, Check, only, _before_, decisionOf, decisionFor, findingOf}
+use Rattle.numbers.specs.Checks.{decisionOf, decisionFor, findingOf}
 use Rattle.numbers.specs.declared.Found.{Found}
 use Rattle.numbers.specs.declared.Found.the-variants.{Nothing}
 use Rattle.numbers.specs.declared.deciding.Decision.{Decision}
@@ -13,7 +13,7 @@ use Rattle.numbers.specs.declared.deciding.Decision.the-variants.{Met, Unmet}
 use Rattle.numbers.specs.declared.deciding.Wanted.{Wanted}
 use Rattle.numbers.proofs.Truth.{or-left, or-right}
 use Rattle.numbers.proofs.Searches.{first-next, clear-first, some-clear, found-nothing}
-use Rattle.numbers.proofs.Checks.{unmet-for, decision-by-steps, decision-only, decision-before}
+use Rattle.numbers.proofs.Checks.{unmet-for, decision-by-steps, one-decides, one-passes}
 use Rattle.dayfile.specs.Limits.{Limits}
 use Rattle.dayfile.specs.Records.{markAt, correctionAt, positionAt}
 use Rattle.dayfile.specs.declared.records.Mark.{Mark}
@@ -152,22 +152,15 @@ neither {b} {a} {o} e p = (or-left b a p, found-nothing o (sym e ∙ or-right b 
 
 -- ---- lists that stand in no file
 
-module _ (c : Check) (cs : Checks) where
-  pub too-many : c .test 0 ≡ true → Met (c .number) 0 ≡ decisionOf (only c before cs)
-  too-many p = sym (decision-before (only c) cs ∙ rw (decision-only c, p))
-
-  pub not-many : c .test 0 ≡ false → {d : Decision} → d ≡ decisionOf cs → d ≡ decisionOf (only c before cs)
-  not-many p e = e ∙ sym (decision-before (only c) cs ∙ rw (decision-only c, p))
-
 module _ (l : Limits) (ms : List Mark) (cs : List Correction) where
   judged-by : {d e : Decision} {n m : ℕ} → d ≡ e → n ≡ m → _≡_ {A = CorrectionsJudged} (record { decision = d; resent = n }) (record { decision = e; resent = m })
   judged-by p q = cc
 
   pub too-many-corrections : tooManyCorrections l ms cs .test 0 ≡ true → _≡_ {A = CorrectionsJudged} (record { decision = Met 2 0; resent = 0 }) (correctionsJudged l ms cs)
   unfolding correctionsJudged
-  too-many-corrections p = judged-by (too-many (tooManyCorrections l ms cs) (correctionChecks ms cs) p) (rw p)
+  too-many-corrections p = judged-by (one-decides (tooManyCorrections l ms cs) (correctionChecks ms cs) p) (rw p)
 
   pub not-many-corrections : tooManyCorrections l ms cs .test 0 ≡ false → {r : CorrectionsJudged} → r .decision ≡ decisionOf (correctionChecks ms cs) → r .resent ≡ resentOf cs
       → r ≡ correctionsJudged l ms cs
   unfolding correctionsJudged
-  not-many-corrections p d e = judged-by (not-many (tooManyCorrections l ms cs) (correctionChecks ms cs) p d) (rw p e)
+  not-many-corrections p d e = judged-by (one-passes (tooManyCorrections l ms cs) (correctionChecks ms cs) p d) (rw p e)

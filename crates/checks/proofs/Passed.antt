@@ -1,9 +1,10 @@
--- What holds of three lists that passed the checks over their records.
+-- What holds of three lists that passed the checks over their records, or the first of them.
 use mathlib.Core.Path.{_≡_, sym, _∙_}
 use mathlib.Core.Bool.{false, _||_}
 use mathlib.Core.List.{List}
 use Prim.Native.Nat.{ℕ, _-_, _≤_, _<_}
 use native.Mathlib.Omega.{arith}
+use lib.Dec.{ltb}
 use lib.ListN.{length}
 use lib.IntN.{ℤ, pos, negsuc, negℤ, natAbs}
 use lib.Signed.{ltZ}
@@ -11,19 +12,32 @@ use borrow.Author.Tests.{leb-false, ltb-false}
 use Rattle.numbers.specs.Integers.{isZero}
 use Rattle.numbers.specs.Checks.{_before_, decisionOf}
 use Rattle.numbers.specs.declared.deciding.Decision.the-variants.{Unmet}
+use Rattle.numbers.proofs.Searches.{or-none}
 use Rattle.numbers.proofs.Truth.{or-left, or-right}
 use Rattle.numbers.proofs.Checks.{both-unmet, decision-before, passed-at}
-use Rattle.dayfile.specs.Limits.{Limits, lotsLimit}
+use Rattle.dayfile.specs.Limits.{Limits, fileLimits, lotsLimit}
 use Rattle.dayfile.specs.Layout.{countsOf, listsOfFile}
 use Rattle.dayfile.specs.Opening.{headerChecks, openedOf}
 use Rattle.dayfile.specs.declared.file.Opened.the-variants.{File}
 use Rattle.dayfile.proofs.Refusals.{opened-decides}
 use Rattle.dayfile.specs.Records.{Lists, positionAt}
+use Rattle.dayfile.specs.WithinLimits.{ListsWithinLimits}
 use Rattle.checks.specs.Marks.{MarkCheck, markCheck, markChecks}
 use Rattle.checks.specs.Corrections.{CorrectionCheck, correctionCheck, correctionChecks}
 use Rattle.checks.specs.Positions.{badLots, PositionCheck, PositionMark, PositionLots, positionCheck, positionChecks}
-use Rattle.checks.specs.Judging.{recordChecks, fileChecks}
+use Rattle.checks.specs.Judging.{recordChecks, tooManyRecords, fileChecks}
 use Rattle.checks.proofs.Agreement.{of-marks, of-corrections, of-positions}
+
+-- ---- how many records
+
+-- lists of which none has more records than a file may have are within the limits
+pub few-records : (ls : Lists) → tooManyRecords fileLimits ls .test 0 ≡ false → ListsWithinLimits ls
+few-records ls p =
+    let a = ltb (fileLimits .marks) (length (ls .marks)) in
+    let b = ltb (fileLimits .corrections) (length (ls .corrections)) in
+    let few = or-none (a || b) _ p in
+    let (m, c) = or-none a b (few .0) in
+    record { marks = ltb-false _ _ m; corrections = ltb-false _ _ c; positions = ltb-false _ _ (few .1) }
 
 -- ---- the three parts
 

@@ -1,6 +1,7 @@
 -- What the checks answer is what their conditions in words say, in both directions and with the index: a file or a list is refused with k at i
 -- exactly where the condition of check k is the first that holds, at i first, and passes exactly where none holds.
 use mathlib.Core.Path.{_≡_, refl, sym, ap, _∙_}
+use mathlib.Core.Bool.{false}
 use mathlib.Core.List.{List}
 use mathlib.Core.Logic.{_⊎_, _↔_}
 use Prim.Native.Nat.{ℕ, _≤_, _<_}
@@ -13,8 +14,9 @@ use Rattle.numbers.specs.Checks.{_before_, Refuses, Passes, decisionOf}
 use Rattle.numbers.specs.declared.deciding.Decision.{Decision}
 use Rattle.numbers.specs.declared.deciding.Decision.the-variants.{Met, Unmet}
 use Rattle.numbers.proofs.Truth.{told}
-use Rattle.numbers.proofs.Checks.{refuses-exactly, passes-exactly, decision-before}
+use Rattle.numbers.proofs.Checks.{refuses-exactly, passes-exactly, decision-before, one-decides, one-passes}
 use Rattle.dayfile.specs.Limits.{Limits}
+use Rattle.dayfile.specs.Records.{Lists}
 use Rattle.dayfile.specs.Layout.{countsOf, listsOfFile}
 use Rattle.dayfile.specs.Opening.{headerChecks, openedOf}
 use Rattle.dayfile.specs.declared.file.Opened.the-variants.{File}
@@ -28,10 +30,10 @@ use Rattle.dayfile.specs.declared.file.DayFile.{DayFile}
 use Rattle.checks.specs.Marks.{MarkCheck, markCheck, markChecks, tooManyMarks, markListChecks}
 use Rattle.checks.specs.Corrections.{CorrectionCheck, correctionCheck, correctionChecks, correctionListChecks, correctionsJudged, resentOf}
 use Rattle.checks.specs.Positions.{PositionCheck, positionCheck, positionChecks, tooManyPositions, positionListChecks}
-use Rattle.checks.specs.Judging.{recordChecks, fileChecks, judgedBy, judgedOf}
+use Rattle.checks.specs.Judging.{recordChecks, tooManyRecords, listChecks, fileChecks, judgedBy, judgedOf}
 use Rattle.checks.specs.declared.judging.Judged.the-variants.{Passed, Refused}
-use Rattle.checks.proofs.Agreement.{marks-agree, corrections-agree, positions-agree, mark-lists-agree, correction-lists-agree, position-lists-agree, file-agrees, many}
-use Rattle.checks.proofs.Deciding.{too-many, not-many, too-many-corrections, not-many-corrections}
+use Rattle.checks.proofs.Agreement.{marks-agree, corrections-agree, positions-agree, mark-lists-agree, correction-lists-agree, position-lists-agree, file-agrees, many, many-records, lists-agree}
+use Rattle.checks.proofs.Deciding.{too-many-corrections, not-many-corrections}
 use Rattle.checks.proofs.Passed.{passed-parts, mark-passes, correction-passes, position-passes}
 
 -- ---- a file, by `judge`
@@ -91,11 +93,11 @@ module _ (l : Limits) (ms : List Mark) where
 
   -- a list within the limit goes by checks 4 to 8
   marks-within : length ms ≤ l .marks → decisionOf (markListChecks l ms) ≡ decisionOf (markChecks ms)
-  marks-within h = sym (not-many (tooManyMarks l ms) (markChecks ms) (le-ltb (l .marks) (length ms) h) refl)
+  marks-within h = sym (one-passes (tooManyMarks l ms) (markChecks ms) (le-ltb (l .marks) (length ms) h) refl)
 
   -- a longer one is refused with 2, whatever stands in it
   pub marks-above : l .marks < length ms → decisionOf (markListChecks l ms) ≡ Met 2 0
-  marks-above h = sym (too-many (tooManyMarks l ms) (markChecks ms) (lt-ltb (l .marks) (length ms) h))
+  marks-above h = sym (one-decides (tooManyMarks l ms) (markChecks ms) (lt-ltb (l .marks) (length ms) h))
 
 module _ (l : Limits) (ms : List Mark) (cs : List Correction) where
   pub corrections-refused : {k i : ℕ} → (correctionsJudged l ms cs .decision ≡ Met k i) ↔ Refuses (correctionListChecks l ms cs) k i
@@ -121,10 +123,28 @@ module _ (l : Limits) (ms : List Mark) (ps : List Position) where
 
   positions-within : length ms ≤ l .marks → length ps ≤ l .positions → decisionOf (positionListChecks l ms ps) ≡ decisionOf (positionChecks ms ps)
   positions-within h k =
-      sym (not-many (tooManyPositions l ms ps) (positionChecks ms ps) (rw (le-ltb (l .marks) (length ms) h, le-ltb (l .positions) (length ps) k)) refl)
+      sym (one-passes (tooManyPositions l ms ps) (positionChecks ms ps) (rw (le-ltb (l .marks) (length ms) h, le-ltb (l .positions) (length ps) k)) refl)
 
   pub positions-above : (l .marks < length ms) ⊎ (l .positions < length ps) → decisionOf (positionListChecks l ms ps) ≡ Met 2 0
-  positions-above h = sym (too-many (tooManyPositions l ms ps) (positionChecks ms ps) (told _ (many (l .marks) (length ms) (l .positions) (length ps)) h))
+  positions-above h = sym (one-decides (tooManyPositions l ms ps) (positionChecks ms ps) (told _ (many (l .marks) (length ms) (l .positions) (length ps)) h))
+
+-- ---- all three lists, by `check_records`
+
+module _ (l : Limits) (ls : Lists) where
+  pub records-refused : {k i : ℕ} → (decisionOf (listChecks l ls) ≡ Met k i) ↔ Refuses (listChecks l ls) k i
+  records-refused = refuses-exactly (listChecks l ls) (lists-agree l ls)
+
+  pub records-passed : (decisionOf (listChecks l ls) ≡ Unmet) ↔ Passes (listChecks l ls)
+  records-passed = passes-exactly (listChecks l ls) (lists-agree l ls)
+
+  -- lists within the limits go by checks 4 to 13 and 16
+  pub records-within : tooManyRecords l ls .test 0 ≡ false → decisionOf (listChecks l ls) ≡ decisionOf (recordChecks ls)
+  records-within few = sym (one-passes (tooManyRecords l ls) (recordChecks ls) few refl)
+
+  -- others are refused with 2, whatever stands in them
+  pub records-above : (l .marks < length (ls .marks)) ⊎ (l .corrections < length (ls .corrections)) ⊎ (l .positions < length (ls .positions))
+      → decisionOf (listChecks l ls) ≡ Met 2 0
+  records-above h = sym (one-decides (tooManyRecords l ls) (recordChecks ls) (told _ (many-records l ls) h))
 
 -- Of the lists of a file that opens, the three calls together say what `judge` says of the file.
 pub judged-by-lists : (l : Limits) (f : List ℕ) → openedOf l f ≡ File (countsOf f)

@@ -1,7 +1,11 @@
 -- What checks 1 to 13 and 16 say of a whole file.
-use Prim.Native.Nat.{ℕ}
+use Prim.Native.Nat.{ℕ, _<_}
+use mathlib.Core.Bool.{_||_}
 use mathlib.Core.List.{List}
-use Rattle.numbers.specs.Checks.{Checks, _before_, decisionOf}
+use mathlib.Core.Logic.{_⊎_}
+use lib.Dec.{ltb}
+use lib.ListN.{length}
+use Rattle.numbers.specs.Checks.{Check, Checks, only, _before_, decisionOf}
 use Rattle.numbers.specs.declared.deciding.Decision.{Decision}
 use Rattle.numbers.specs.declared.deciding.Decision.the-variants.{Met, Unmet}
 use Rattle.dayfile.specs.Limits.{Limits}
@@ -19,6 +23,22 @@ use Rattle.checks.specs.declared.judging.Judged.the-variants.{Passed, Re
 abbrev pub recordChecks : Lists → Checks
 recordChecks ls =
     markChecks (ls .marks) before correctionChecks (ls .marks) (ls .corrections) before positionChecks (ls .marks) (ls .positions)
+
+-- the same of lists that stand in no file: 2 where a file may not have as many marks, corrections or positions, before the others
+module _ (l : Limits) (ls : Lists) where
+  abbrev pub tooManyRecords : Check
+  tooManyRecords =
+      record {
+        number = 2;
+        Condition = λ i.
+            (l .marks < length (ls .marks)) ⊎ (l .corrections < length (ls .corrections)) ⊎ (l .positions < length (ls .positions));
+        test = λ i.
+            ltb (l .marks) (length (ls .marks)) || ltb (l .corrections) (length (ls .corrections))
+            || ltb (l .positions) (length (ls .positions));
+      }
+
+  abbrev pub listChecks : Checks
+  listChecks = only tooManyRecords before recordChecks ls
 
 -- those over a file: 1 to 13 and 16
 abbrev pub fileChecks : Limits → List ℕ → Checks

@@ -4,7 +4,10 @@ use crate::marks::decide_marks;
 use crate::positions::decide_positions;
 use dayfile::DayFile;
 use dayfile::Opened;
+use dayfile::correction_count;
+use dayfile::mark_count;
 use dayfile::open_file;
+use dayfile::position_count;
 use numbers::Decision;
 use numbers::Wanted;
 ghost use mathlib.Core.Path.{_≡_};
@@ -13,7 +16,7 @@ ghost use Rattle.dayfile.specs.Limits.{fileLimits};
 ghost use Rattle.dayfile.specs.Records.{listsOf, correctionsIn};
 ghost use Rattle.dayfile.specs.WithinLimits.{ListsWithinLimits};
 ghost use Rattle.checks.specs.Corrections.{resentOf};
-ghost use Rattle.checks.specs.Judging.{recordChecks, judgedBy, judgedOf};
+ghost use Rattle.checks.specs.Judging.{recordChecks, tooManyRecords, listChecks, judgedBy, judgedOf};
 
 // A file that passes checks 1 to 13 and 16: its counts, and how many of its corrections bear a number that an earlier one bears.
 // Or the number of the check that turns it away, and the record's index.
@@ -49,6 +52,31 @@ pub(crate) fn decide_records(
         decision: of_marks.or(decision.or(of_positions)),
         resent: of_corrections.resent,
     }
+}
+
+// 2, of lists that stand in no file: a file may not have as many marks, corrections or positions.
+pub fn too_many(marks: &[u8], corrections: &[u8], positions: &[u8]) -> bool
+    ensures { λ r. ⌜ r
+        ≡ tooManyRecords fileLimits (listsOf (now (marks .entry)) (now (corrections .entry)) (now (positions .entry))) .test 0 ⌝ }
+{
+    (mark_count(marks) > DayFile::MAX_MARKS)
+        | (correction_count(corrections) > DayFile::MAX_CORRECTIONS)
+        | (position_count(positions) > DayFile::MAX_POSITIONS)
+}
+
+// What the checks decide of three lists: 2 where a file may not have as many of any, then 4 to 13 and 16.
+pub fn check_records(marks: &[u8], corrections: &[u8], positions: &[u8]) -> Decision
+    ensures { λ r. ⌜ r
+        ≡ decisionOf (listChecks fileLimits (listsOf (now (marks .entry)) (now (corrections .entry)) (now (positions .entry)))) ⌝ }
+{
+    if too_many(marks, corrections, positions) {
+        return Decision::Met {
+            number: 2,
+            index: 0,
+        };
+    }
+    let judged = decide_records(marks, corrections, positions, Wanted::All);
+    judged.decision
 }
 
 // What all checks over the records say.

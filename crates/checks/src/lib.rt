@@ -10,6 +10,8 @@ pub use corrections::CorrectionsJudged;
 pub use corrections::check_corrections;
 pub use finding::find;
 pub use judging::Judged;
+pub use judging::check_records;
 pub use judging::judge;
+pub use judging::too_many;
 pub use marks::check_marks;
 pub use positions::check_positions;

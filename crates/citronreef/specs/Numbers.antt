@@ -5,10 +5,12 @@ use Rattle.pricing.specs.Calls as calls
 use Rattle.settlement.specs.Settling as settling
 use Rattle.settlement.specs.Prices.{Highest, NoneYet, Numbered}
 use Rattle.settlement.specs.OneMark as marks
+use Rattle.making.specs.Making as making
 use Rattle.citronreef.specs.declared.Quote.{Quote}
 use Rattle.citronreef.specs.declared.Outcome.{Outcome}
 use Rattle.citronreef.specs.declared.MarkOutcome.{MarkOutcome}
 use Rattle.citronreef.specs.declared.Finding.{Finding}
+use Rattle.citronreef.specs.declared.Making.{Making}
 use Rattle.numbers.specs.declared.Found.{Found}
 use Rattle.numbers.specs.declared.Found.the-variants.{At, Nothing}
 
@@ -43,3 +45,8 @@ markOutcomeOf (marks.refused k i) = record { refused = k; index = i; previous = 
 abbrev pub findingOf : Found → Finding
 findingOf (At i) = record { found = 1; index = i }
 findingOf Nothing = record { found = 0; index = 0 }
+
+-- the answer of the maker
+abbrev pub makingOf : making.Answer → Making
+makingOf (making.made n) = record { refused = 0; index = 0; length = n }
+makingOf (making.refused k i) = record { refused = k; index = i; length = 0 }

@@ -10,8 +10,11 @@ ghost use Rattle.settlement.specs.Settling.{said as saidOfDay};
 ghost use Rattle.settlement.specs.OneMark.{markAnswerOf};
 ghost use Rattle.settlement.specs.OneMark.{said as saidOfMark};
 ghost use Rattle.text.specs.Writing.{Wrote};
-ghost use Rattle.citronreef.specs.Numbers.{quoteOf, outcomeOf, markOutcomeOf, findingOf};
+ghost use Rattle.citronreef.specs.Numbers.{quoteOf, outcomeOf, markOutcomeOf, findingOf, makingOf};
 ghost use Rattle.checks.specs.Finding.{foundOf};
+ghost use Rattle.making.specs.Making.{bufferAfter};
+ghost use Rattle.making.specs.Making.{said as saidOfMaker, answerOf as makerAnswerOf};
+use making::Made;
 use numbers::Found;
 use pricing::Priced;
 use products::Code;
@@ -153,6 +156,32 @@ fn finding_numbers(f: Found) -> Finding
     }
 }
 
+// The answer of the maker: the file's length, with a refused and an index of 0. Where it is refused, refused and index say by which
+// check and at which record, and the length is 0.
+#[repr(C)]
+pub struct Making {
+    pub refused: u64,
+    pub index: u64,
+    pub length: u64,
+}
+
+fn making_numbers(m: Made) -> Making
+    ensures { λ r. ⌜ r ≡ makingOf (saidOfMaker m) ⌝ }
+{
+    match m {
+        Made::File { length } => Making {
+            refused: 0,
+            index: 0,
+            length: length as u64,
+        },
+        Made::Refused { number, index } => Making {
+            refused: number as u64,
+            index: index as u64,
+            length: 0,
+        },
+    }
+}
+
 // The value of one contract in cents. The code is its two letters.
 #[no_mangle]
 pub extern "C" fn citronreef_value(first: u8, second: u8, price: u32) -> Quote
@@ -212,4 +241,21 @@ pub extern "C" fn citronreef_sheet(file: &[u8], amounts: &mut [i64], out: &mut [
     ensures amounts { λ r. ⌜ now (amounts .exit) ≡ amountsWithin (length (now (out .entry))) (now (file .entry)) (now (amounts .entry)) ⌝ }
 {
     report::sheet(file, amounts, out)
+}
+
+// Makes the day file of three lists, which are lent as the bytes of their records. The file stands at the start of `out`, and the other
+// bytes stay; a refusal writes nothing.
+#[no_mangle]
+pub extern "C" fn citronreef_make(
+    marks: &[u8],
+    corrections: &[u8],
+    positions: &[u8],
+    out: &mut [u8],
+) -> Making
+    ensures answer { λ r. ⌜ r ≡ makingOf
+        (makerAnswerOf fileLimits (now (marks .entry)) (now (corrections .entry)) (now (positions .entry)) (length (now (out .entry)))) ⌝ }
+    ensures written { λ r. ⌜ now (out .exit)
+        ≡ bufferAfter fileLimits (now (marks .entry)) (now (corrections .entry)) (now (positions .entry)) (now (out .entry)) ⌝ }
+{
+    making_numbers(making::make(marks, corrections, positions, out))
 }

@@ -1,12 +1,13 @@
 -- Lists of bytes: what is cut out of them and put together from them.
-use mathlib.Core.Path.{_≡_, refl}
+use mathlib.Core.Path.{_≡_, refl, sym, _∙_}
 use mathlib.Core.Bool.{Bool, true, false, _&&_}
 use mathlib.Core.List.{List, [], _∷_, _++_, List·Memᴰ, List·Memᴰ·head, List·Memᴰ·tail, List·Memᴰ·not-nil}
-use Prim.Native.Nat.{ℕ, zero, suc, _+_, _*_, _/_, _%_, _<_}
+use Prim.Native.Nat.{ℕ, zero, suc, _+_, _*_, _/_, _%_, _≤_, _<_}
 use native.Mathlib.Decide.{decLt}
+use native.Mathlib.Nat.{add-zero}
 use native.Mathlib.Omega.{arith}
 use lib.Dec.{eqb}
-use lib.ListN.{getD, drop, length-take, List·getD-eq-default}
+use lib.ListN.{length, getD, take, drop, length-take, length-drop, List·getD-eq-default}
 use lib.Seq.{getD-take, getD-drop}
 use borrow.Author.Tests.{eqb-true, eqb-false}
 use Rattle.numbers.specs.Bytes.{Bytes, joined, u32At, u32Bytes, part, records, bytesOf}
@@ -65,3 +66,30 @@ all-bytes (r ∷ rs) h = append-bytes r (bytesOf rs) (h r (List·Memᴰ·head re
 -- a number from its four bytes
 pub from-bytes : (n : ℕ) → n < 4294967296 → n % 256 + 256 * (n / 256 % 256) + 65536 * (n / 256 / 256 % 256) + 16777216 * (n / 256 / 256 / 256 % 256) ≡ n
 from-bytes n h = omega arith
+
+-- four bytes from their number
+split-again : (a b c d : ℕ) → a < 256 → b < 256 → c < 256 → d < 256 → u32Bytes (joined a b c d) ≡ a ∷ b ∷ c ∷ d ∷ []
+unfolding u32Bytes
+split-again a b c d ha hb hc hd =
+    let p : joined a b c d / 256 ≡ b + 256 * c + 65536 * d = omega arith in
+    let q : (b + 256 * c + 65536 * d) / 256 ≡ c + 256 * d = omega arith in
+    let r : (c + 256 * d) / 256 ≡ d = omega arith in
+    let e : joined a b c d % 256 ≡ a = omega arith in
+    let f : (b + 256 * c + 65536 * d) % 256 ≡ b = omega arith in
+    let g : (c + 256 * d) % 256 ≡ c = omega arith in
+    let h : d % 256 ≡ d = omega arith in
+    rw (e, p, f, q, g, r, h)
+
+first-four : (s : List ℕ) → 4 ≤ length s → take 4 s ≡ getD s 0 0 ∷ getD s 1 0 ∷ getD s 2 0 ∷ getD s 3 0 ∷ []
+first-four [] h = absurd (omega arith)
+first-four (a ∷ []) h = absurd (omega arith)
+first-four (a ∷ b ∷ []) h = absurd (omega arith)
+first-four (a ∷ b ∷ c ∷ []) h = absurd (omega arith)
+first-four (a ∷ b ∷ c ∷ d ∷ r) h = refl
+
+-- the bytes of a number that was read are those that it was read from
+pub u32-again : (s : List ℕ) (i : ℕ) → Bytes s → i + 4 ≤ length s → u32Bytes (u32At s i) ≡ part i 4 s
+unfolding u32At
+u32-again s i b h =
+    split-again (getD s i 0) (getD s (i + 1) 0) (getD s (i + 2) 0) (getD s (i + 3) 0) (b i) (b (i + 1)) (b (i + 2)) (b (i + 3))
+    ∙ sym (first-four (drop i s) (rw (length-drop i s) (omega arith)) ∙ simp (getD-drop, add-zero))

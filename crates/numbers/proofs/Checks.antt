@@ -1,7 +1,7 @@
 -- The laws of checks in their order: what they decide is what their conditions in words say, and how parts of an order go together.
 use mathlib.Core.Path.{_≡_, refl, sym, ap, _∙_}
 use mathlib.Core.Bool.{Bool, true, false, cond, _&&_}
-use mathlib.Core.List.{List, [], _∷_, _++_, map, foldl, List·Memᴰ}
+use mathlib.Core.List.{List, [], _∷_, _++_, map, foldl, List·Memᴰ, List·Memᴰ·head}
 use mathlib.Core.Logic.{inl, inr, _↔_}
 use Prim.Native.Nat.{ℕ, _≤_, _<_}
 use native.Mathlib.Nat.{le-trans}
@@ -127,6 +127,19 @@ decision-before p q =
     decision-append number finding (map inl (p .order)) (map inr (q .order))
     ∙ ap (λ d. orLater d (decision number finding (map inr (q .order)))) (decision-map number finding inl (p .order))
     ∙ ap (orLater (decision (numberOf p) (findingOf p) (p .order))) (decision-map number finding inr (q .order))
+
+-- one check before others: it decides alone, or they do
+module _ (c : Check) (cs : Checks) where
+  pub one-decides : c .test 0 ≡ true → Met (c .number) 0 ≡ decisionOf (only c before cs)
+  one-decides p = sym (decision-before (only c) cs ∙ rw (decision-only c, p))
+
+  pub one-passes : c .test 0 ≡ false → {d : Decision} → d ≡ decisionOf cs → d ≡ decisionOf (only c before cs)
+  one-passes p e = e ∙ sym (decision-before (only c) cs ∙ rw (decision-only c, p))
+
+  pub one-passed : decisionOf (only c before cs) ≡ Unmet → (c .test 0 ≡ false) × (decisionOf cs ≡ Unmet)
+  one-passed p =
+      let both = both-unmet (decisionOf (only c)) (decisionOf cs) (sym (decision-before (only c) cs) ∙ p) in
+      (passed-at (only c) (both .0) (List·Memᴰ·head refl) (omega arith), both .1)
 
 pub decision-for-before : (p q : Checks) (w : Wanted) → decisionFor (p before q) w ≡ orLater (decisionFor p w) (decisionFor q w)
 unfolding decisionFor

@@ -11,6 +11,7 @@ use Rattle.numbers.proofs.Bytes.{part-bytes, record-bytes, all-bytes}
 use Rattle.dayfile.specs.Records.{correctionSize, correctionOf, markSize, positionSize}
 use Rattle.dayfile.specs.Limits.{fileLimits}
 use Rattle.dayfile.specs.Opening.{openedOf}
+use Rattle.dayfile.specs.WithinLimits.{WholeRecords}
 use Rattle.dayfile.specs.Layout.{countsOf, markBytes, correctionBytes, positionBytes, headerSize, correctionsStart, positionsStart}
 use Rattle.settlement.specs.Settling.{settled, answerOf}
 use Rattle.settlement.specs.Resend.{SentAgain, correctionRecords, Resent}
@@ -22,7 +23,7 @@ use Rattle.dayfile.proofs.Parts.{corrections-sized}
 use Rattle.settlement.proofs.Resending.{sent-within, sent-length}
 use Rattle.dayfile.proofs.Opening.{opens, laid-out, opens-file}
 use Rattle.settlement.proofs.Accepted.{settled-accepted}
-use Rattle.dayfile.proofs.Made.{WholeRecords, counts-by, sections-whole, made-counts, made-length, made-marks, made-corrections, made-positions, made-is-bytes}
+use Rattle.dayfile.proofs.Made.{counts-by, sections-whole, made-counts, made-length, made-marks, made-corrections, made-positions, made-is-bytes}
 use Rattle.dayfile.proofs.Made.{made-marks-at, made-corrections-at, made-positions-at}
 
 -- ---- records of one size and their bytes

@@ -1,13 +1,12 @@
 -- By the numbers of marks and positions: above a limit check 2 refuses before all others, and within both the checks over positions decide.
 use mathlib.Core.Path.{_∙_}
 use lib.Dec.{ltb}
-use Rattle.numbers.proofs.Checks.{decision-all}
+use Rattle.numbers.proofs.Checks.{one-decides, one-passes, decision-all}
 use borrow.Author.Tests.{ltb-false}
 use Rattle.numbers.proofs.Searches.{or-none}
 use Rattle.dayfile.specs.Limits.{fileLimits}
 use Rattle.dayfile.specs.Records.{marksIn, positionsIn}
 use Rattle.checks.specs.Positions.{positionChecks, tooManyPositions}
-use Rattle.checks.proofs.Deciding.{too-many, not-many}
 use borrow.Author.Needs.{needs}
 use Rattle.checks.proofs.positions.check_positions.Statement.{statement}
 use Rattle.checks.proofs.positions.check_positions.Tie as tie
@@ -17,7 +16,7 @@ returns c =
     let a = c .before .before .before .before .before .args in
     let ms = marksIn (a .marks .now) in
     let ps = positionsIn (a .positions .now) in
-    too-many (tooManyPositions fileLimits ms ps) (positionChecks ms ps) (rw (← c .before .before .mark-count .ensures, ← c .before .position-count .ensures) (c .if1 .taken))
+    one-decides (tooManyPositions fileLimits ms ps) (positionChecks ms ps) (rw (← c .before .before .mark-count .ensures, ← c .before .position-count .ensures) (c .if1 .taken))
 
 decide-positions-requires : tie.Need-decide-positions-requires
 decide-positions-requires c κs =
@@ -29,7 +28,7 @@ returns-2 c =
     let a = c .before .before .before .before .before .before .args in
     let ms = marksIn (a .marks .now) in
     let ps = positionsIn (a .positions .now) in
-    not-many (tooManyPositions fileLimits ms ps) (positionChecks ms ps)
+    one-passes (tooManyPositions fileLimits ms ps) (positionChecks ms ps)
     (rw (← c .before .before .before .mark-count .ensures, ← c .before .before .position-count .ensures) (c .before .if1 .left))
     (c .decide-positions .ensures ∙ decision-all (positionChecks ms ps))
 
