@@ -62,11 +62,15 @@ module _ (l : Limits) (f : List ℕ) where
     λ h. ap (judgedBy (countsOf f) (resentOf (listsOfFile f .corrections))) (passes-exactly (fileChecks l f) (file-agrees l f) .1 h),
   )
 
+  -- what is decided of a file that passes
+  pub judged-passes : {c : DayFile} {n : ℕ} → judgedOf l f ≡ Passed c n → decisionOf (fileChecks l f) ≡ Unmet
+  unfolding judgedOf
+  judged-passes e = passed-by _ _ (decisionOf (fileChecks l f)) e
+
   -- Nothing is wrong with any record of a file that passes, as many as its header counts.
   module _ {c : DayFile} {n : ℕ} (e : judgedOf l f ≡ Passed c n) where
     passed : (openedOf l f ≡ File (countsOf f)) × (decisionOf (recordChecks (listsOfFile f)) ≡ Unmet)
-    unfolding judgedOf
-    passed = passed-parts l f (passed-by _ _ (decisionOf (fileChecks l f)) e)
+    passed = passed-parts l f (judged-passes e)
 
     counts : (length (listsOfFile f .marks) ≡ u32At f 0) × (length (listsOfFile f .corrections) ≡ u32At f 8) × (length (listsOfFile f .positions) ≡ u32At f 16)
     counts = header-counts f (opens l f (passed .0) .0 .ends-at)

@@ -8,9 +8,9 @@ use lib.Seq.{take-add, take-all, drop-drop}
 use Rattle.numbers.specs.Bytes.{Bytes, u32At, u32Bytes, part}
 use Rattle.numbers.proofs.Bytes.{append-bytes, u32-bytes, from-bytes, u32-again}
 use Rattle.numbers.proofs.Sections.{length-part, part-at, part-end}
-use Rattle.dayfile.specs.Records.{markSize, correctionSize, positionSize}
+use Rattle.dayfile.specs.Records.{markSize, correctionSize, positionSize, listsOf}
 use Rattle.dayfile.specs.Limits.{Limits, fileLimits}
-use Rattle.dayfile.specs.Layout.{headerSize, countsOf, correctionsStart, positionsStart, lengthOf, markBytes, correctionBytes, positionBytes}
+use Rattle.dayfile.specs.Layout.{headerSize, countsOf, correctionsStart, positionsStart, lengthOf, markBytes, correctionBytes, positionBytes, listsOfFile}
 use Rattle.dayfile.specs.Opening.{openedOf}
 use Rattle.dayfile.specs.WithinLimits.{CountsWithinLimits, WholeRecords}
 use Rattle.dayfile.specs.Making.{countsIn, entryBytes, headerOf, madeOf}
@@ -74,6 +74,9 @@ module _ (ms cs ps : List ℕ) (d : DayFile) (w : WholeRecords ms cs ps d) where
   made-positions =
       let h : length (headerOf d ++ ms ++ cs) ≡ positionsStart d = rw (length-append (headerOf d ++ ms) cs, length-append (headerOf d) ms, length-header d) (omega (arith, w .marks, w .corrections)) in
       rw made-is (part-end (headerOf d ++ ms ++ cs) ps (positionsStart d) (positionSize * d .positions) h (w .positions))
+
+  pub made-lists : listsOfFile made ≡ listsOf ms cs ps
+  made-lists = rw (made-counts, made-marks, made-corrections, made-positions)
 
   -- it opens, at any limits that its counts are within
   pub made-opens : (l : Limits) → d .marks ≤ l .marks → d .corrections ≤ l .corrections → d .positions ≤ l .positions → openedOf l made ≡ File d

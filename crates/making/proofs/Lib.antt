@@ -1,2 +1,5 @@
+pub mod Promises
+pub mod Example
+pub mod RoundTrip
+pub mod Planned
 mod Written
-mod Planned

@@ -6,7 +6,7 @@ use Prim.Native.Nat.{ℕ, _*_, _/_, _%_, _≤_}
 use native.Mathlib.Omega.{arith}
 use lib.Dec.{ltb, eqb}
 use lib.ListN.{length}
-use borrow.Author.Tests.{eqb-true, eq-eqb, ltb-false, le-ltb}
+use borrow.Author.Tests.{eqb-true, eq-eqb, ltb-false, le-ltb, not-false}
 use Rattle.numbers.specs.Order.{pick}
 use Rattle.numbers.specs.Checks.{Checks, only, _before_, decisionOf}
 use Rattle.numbers.specs.declared.Found.the-variants.{At, Nothing}
@@ -19,7 +19,7 @@ use Rattle.dayfile.specs.Limits.{Limits, fileLimits}
 use Rattle.dayfile.specs.Records.{markSize, correctionSize, positionSize, markOf, correctionOf, positionOf, listsOf}
 use Rattle.dayfile.specs.Layout.{lengthOf}
 use Rattle.dayfile.specs.Making.{countsIn, madeOf}
-use Rattle.dayfile.specs.WithinLimits.{ListsWithinLimits, WholeRecords}
+use Rattle.dayfile.specs.WithinLimits.{CountsWithinLimits, ListsWithinLimits, WholeRecords}
 use Rattle.dayfile.specs.declared.file.DayFile.{DayFile}
 use Rattle.dayfile.proofs.Made.{made-length}
 use Rattle.checks.specs.Judging.{recordChecks, tooManyRecords, listChecks}
@@ -37,11 +37,7 @@ use Rattle.making.specs.declared.plans.Plan.the-variants.{File, Refused}
 
 module _ (ms cs ps : List ℕ) where
   whole-by : (w n : ℕ) → not (eqb (n % w) 0) ≡ false → n % w ≡ 0
-  whole-by w n p = eqb-true (n % w) 0 (unsaid (eqb (n % w) 0) p)
-    where
-      unsaid : (b : Bool) → not b ≡ false → b ≡ true
-      unsaid true e = refl
-      unsaid false e = absurd (let z : _≡_ {A = ℕ} 0 1 = cc in omega arith)
+  whole-by w n p = eqb-true (n % w) 0 (not-false (eqb (n % w) 0) p)
 
   -- lists within the limits, none of them broken
   pub whole-lists : ListsWithinLimits (listsOf ms cs ps) → brokenList ms cs ps .test 0 ≡ false → WholeRecords ms cs ps (countsIn ms cs ps)
@@ -127,22 +123,41 @@ pub record Fitting (ms cs ps : List ℕ) (d : DayFile) (room : ℕ) : Type 0 whe
   pub passed : decisionOf (recordChecks (listsOf ms cs ps)) ≡ Unmet
   pub fits : length (madeOf ms cs ps) ≤ room
 
+room-left : (short : Bool) → pick (cond short (At 0) Nothing) 17 Unmet ≡ Unmet → short ≡ false
+room-left false e = refl
+room-left true e = absurd (let z : _≡_ {A = ℕ} 0 1 = cc in omega arith)
+
+-- no check refuses
+pub none-refuses : (l : Limits) (ms cs ps : List ℕ) (room : ℕ) → decisionOf (makingChecks ms cs ps l room) ≡ Unmet
+    → (tooManyRecords l (listsOf ms cs ps) .test 0 ≡ false) × (brokenList ms cs ps .test 0 ≡ false) × (decisionOf (recordChecks (listsOf ms cs ps)) ≡ Unmet)
+    × (length (madeOf ms cs ps) ≤ room)
+none-refuses l ms cs ps room p =
+    let ls = listsOf ms cs ps in
+    let of-room = only (roomCheck ms cs ps room) in
+    let (few, after-few) = one-passed (tooManyRecords l ls) (afterCounts l ms cs ps room) p in
+    let (whole, after-whole) = one-passed (brokenList ms cs ps) (afterRecords l ms cs ps room) after-few in
+    let (passed, left) = both-unmet (decisionOf (recordChecks ls)) (decisionOf of-room) (sym (decision-before (recordChecks ls) of-room) ∙ after-whole) in
+    (few, whole, passed, ltb-false _ _ (room-left (ltb room (length (madeOf ms cs ps))) (sym (decision-only (roomCheck ms cs ps room)) ∙ left)))
+
 module _ (ms cs ps : List ℕ) (room : ℕ) where
   pub fitting : decisionOf (makingChecks ms cs ps fileLimits room) ≡ Unmet → Fitting ms cs ps (countsIn ms cs ps) room
   fitting p =
-      let ls = listsOf ms cs ps in
-      let (few, p′) = one-passed (tooManyRecords fileLimits ls) (afterCounts fileLimits ms cs ps room) p in
-      let (whole, p″) = one-passed (brokenList ms cs ps) (afterRecords fileLimits ms cs ps room) p′ in
-      let both = both-unmet (decisionOf (recordChecks ls)) (decisionOf (only (roomCheck ms cs ps room))) (sym (decision-before (recordChecks ls) (only (roomCheck ms cs ps room))) ∙ p″) in
-      record {
-        whole = whole-lists ms cs ps (few-records ls few) whole;
-        passed = both .0;
-        fits = ltb-false _ _ (room-left (ltb room (length (madeOf ms cs ps))) (sym (decision-only (roomCheck ms cs ps room)) ∙ both .1));
-      }
-    where
-      room-left : (short : Bool) → pick (cond short (At 0) Nothing) 17 Unmet ≡ Unmet → short ≡ false
-      room-left false e = refl
-      room-left true e = absurd (let z : _≡_ {A = ℕ} 0 1 = cc in omega arith)
+      let (few, whole, passed, fits) = none-refuses fileLimits ms cs ps room p in
+      record { whole = whole-lists ms cs ps (few-records (listsOf ms cs ps) few) whole; passed = passed; fits = fits }
+
+  few-counted : {d : DayFile} → d ≡ countsIn ms cs ps → CountsWithinLimits d → tooManyRecords fileLimits (listsOf ms cs ps) .test 0 ≡ false
+  unfolding countsIn
+  few-counted c few =
+      let m = ap (λ (d : DayFile). d .marks) c in
+      let n = ap (λ (d : DayFile). d .corrections) c in
+      let k = ap (λ (d : DayFile). d .positions) c in
+      simp (le-ltb _ _ (rw m at (few .marks)), le-ltb _ _ (rw n at (few .corrections)), le-ltb _ _ (rw k at (few .positions)))
+
+  -- and back
+  pub fits-decided : {d : DayFile} → Fitting ms cs ps d room → decisionOf (makingChecks ms cs ps fileLimits room) ≡ Unmet
+  fits-decided f =
+      let w = f .whole in
+      decided-room fileLimits ms cs ps room (few-counted (w .counts) (w .counts-within)) (not-broken ms cs ps w) (f .passed) ∙ rw (le-ltb _ _ (f .fits))
 
   file-by : (d : DayFile) (x : Decision) {e : DayFile} → planBy d x ≡ File e → (x ≡ Unmet) × (d ≡ e)
   file-by d (Met k i) p = absurd (let z : _≡_ {A = ℕ} 0 1 = cc in omega arith)

@@ -18,7 +18,8 @@ use Rattle.dayfile.specs.Layout.{countsOf}
 use Rattle.dayfile.specs.Making.{countsIn, entryBytes, headerOf, madeOf}
 use Rattle.settlement.specs.Prices.{highestOf, finalOf, changeOf}
 use Rattle.settlement.specs.Settling.{amountOf, totalOf, planOf, answerOf}
-use Rattle.settlement.proofs.Example.{marks, corrections, positions, caseFile, twoMarks}
+use Rattle.dayfile.proofs.CaseFile.{marks, corrections, positions, caseFile}
+use Rattle.settlement.proofs.Example.{twoMarks}
 use Rattle.settlement.proofs.AnsweredFiles.{noMark}
 use Rattle.text.specs.Ascii.{ascii}
 use Rattle.text.specs.Writing.{texts}

@@ -69,13 +69,13 @@ withCorrections f rs = madeOf (markBytes f (countsOf f)) (bytesOf rs) (positionB
 
 module _ (f : List ℕ) (o : openedOf fileLimits f ≡ File (countsOf f)) (ds : List (List ℕ)) {copies : ℕ}
     (sent : SentAgain (correctionRecords f) (correctionRecords f) ds copies) (few : length ds ≤ fileLimits .corrections) where
-  abbrev counts : DayFile
+  abbrev pub counts : DayFile
   counts = record { marks = countsOf f .marks; corrections = length ds; positions = countsOf f .positions }
 
   sized : Sized correctionSize ds
   sized r m = corrections-whole (correctionBytes f (countsOf f)) r (sent-within sent (λ c n. n) r m)
 
-  whole : WholeRecords (markBytes f (countsOf f)) (bytesOf ds) (positionBytes f (countsOf f)) counts
+  pub whole : WholeRecords (markBytes f (countsOf f)) (bytesOf ds) (positionBytes f (countsOf f)) counts
   unfolding countsIn
   whole =
       let w = sections-whole f o in
@@ -119,7 +119,7 @@ module _ (f : List ℕ) (o : openedOf fileLimits f ≡ File (countsOf f)) (ds : 
         file-length = omega (arith, made-length _ _ _ counts whole, h .ends-at, longer);
       }
 
-  few-counted : u32At (withCorrections f ds) 8 ≤ fileLimits .corrections
+  pub few-counted : u32At (withCorrections f ds) 8 ≤ fileLimits .corrections
   unfolding countsOf
   few-counted = omega (arith, ap (λ (e : DayFile). e .corrections) (made-counts _ _ _ counts whole), few)
 
