@@ -1,6 +1,6 @@
 /*
  * Citronreef: value, tick value and bracket of one ASX 24 rate futures contract, the settlement of a day file,
- * what is said of each of its marks, where a check's condition holds in it, and its sheet.
+ * what is said of each of its marks, where a check's condition holds in it, its sheet, and the making of a day file.
  *
  * Link with libcitronreef.so or libcitronreef.a; `pkg-config --cflags --libs citronreef` says how. Of the documents, which are
  * installed in share/doc/citronreef and stand in docs of the repository, LIBRARY.md has examples and REFUSALS.md the checks by
@@ -16,7 +16,7 @@
  * Null: a pointer with length 0 may be null, as the data of an empty std::vector is. This is tested and lies outside the proof,
  * which is about slices, and a slice is never null. A null pointer with another length is not allowed.
  *
- * Alignment: amounts are aligned as int64_t is. A file and the room for a sheet may start at any byte.
+ * Alignment: amounts are aligned as int64_t is. Files, lists of records, and the room for a file or a sheet may start at any byte.
  */
 #ifndef CITRONREEF_H
 #define CITRONREEF_H
@@ -46,6 +46,9 @@ extern "C" {
 #define CITRONREEF_MAX_CORRECTIONS 512
 #define CITRONREEF_MAX_POSITIONS 4096
 #define CITRONREEF_MAX_LOTS 1000000
+
+/* No day file is longer than this, in bytes: 24 for the header, and 12 for each of 256 + 512 + 4,096 records. */
+#define CITRONREEF_FILE_SIZE 58392
 
 /* No sheet is longer than this, in bytes: 47 for each of 4,096 positions, and 90 for the totals and the resent count. */
 #define CITRONREEF_SHEET_SIZE 192602
@@ -89,6 +92,13 @@ typedef struct {
     uint64_t index; /* the first record where it holds; 0 where found is 0, or where the check looks at no single record */
 } citronreef_found;
 
+/* The answer of the maker. Where refused is not 0 it is the number of the check, index the record, and length is 0. */
+typedef struct {
+    uint64_t refused;
+    uint64_t index;
+    uint64_t length; /* of the file, in bytes */
+} citronreef_made;
+
 /* The value of one contract in cents. The code is two letters; the price is in units of 0.0001. */
 citronreef_quote citronreef_value(uint8_t first, uint8_t second, uint32_t price);
 
@@ -126,6 +136,16 @@ citronreef_found citronreef_find(const uint8_t *file, size_t file_length, uint32
  * amounts, and the answer is 0. No two of file, amounts and out overlap.
  */
 size_t citronreef_sheet(const uint8_t *file, size_t file_length, int64_t *amounts, size_t places, uint8_t *out, size_t room);
+
+/*
+ * Makes a day file of three lists, each lent as the bytes of its records, 12 for each: writes the header and the three sections at
+ * the start of out, and answers the file's length. The other bytes of out stay; a refusal writes nothing. The checks are, in this
+ * order: 2, where a list has more whole records than a file may have; 3, where a list is not whole records; 4 to 13 and 16, as for
+ * a file that has these lists; and 17, where room is less than the file's length. The index of 2, 3 and 17 is 0. A room of
+ * CITRONREEF_FILE_SIZE bytes is enough for every file. Out overlaps none of the lists; these may overlap each other.
+ */
+citronreef_made citronreef_make(const uint8_t *marks, size_t marks_length, const uint8_t *corrections, size_t corrections_length,
+                                const uint8_t *positions, size_t positions_length, uint8_t *out, size_t room);
 
 #ifdef __cplusplus
 }

@@ -216,6 +216,8 @@ class Tables(unittest.TestCase):
         self.assertEqual(citronreef.units_of(citronreef.PRICE_LIMIT), int(macros["PRICE_LIMIT"]))
         for name in ("MAX_MARKS", "MAX_CORRECTIONS", "MAX_POSITIONS", "MAX_LOTS"):
             self.assertEqual(getattr(citronreef, name), int(macros[name]))
+        for name in ("FILE_SIZE", "SHEET_SIZE"):
+            self.assertEqual(getattr(citronreef.library, name), int(macros[name]))
 
     def test_refusal(self):
         refusal = Refusal(7, 3)
@@ -226,7 +228,7 @@ class Tables(unittest.TestCase):
 
     def test_examples_of_the_module(self):
         tried = doctest.testmod(citronreef)
-        self.assertEqual((tried.failed, tried.attempted), (0, 3))
+        self.assertEqual((tried.failed, tried.attempted), (0, 9))
 
 
 if __name__ == "__main__":

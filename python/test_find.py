@@ -142,7 +142,7 @@ class Finding(unittest.TestCase):
 
     def test_no_check(self):
         whole = file(positions=[position(0), position(0)])
-        for check in (-1, 0, 14, 15, 17, 2**32, 2**32 + 1, 2**32 + 16, 2**64):
+        for check in (-1, 0, 14, 15, 17, 18, 2**32, 2**32 + 1, 2**32 + 16, 2**64):
             self.assertIsNone(citronreef.find(b"", check))
             self.assertIsNone(citronreef.find(whole, check))
         self.assertEqual(citronreef.find(b"", 1), 0)

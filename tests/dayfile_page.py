@@ -14,14 +14,15 @@ from pathlib import Path
 import calculator
 from calculator import PRICE_LIMIT, PRODUCTS, Bill, Bond, CashRate
 from days import contracts, day, file, held_by_many, position
-from records import HEADER_SIZE, MAX_CORRECTIONS, MAX_MARKS, MAX_POSITIONS, RECORD_SIZE
+from records import HEADER_SIZE, MAX_CORRECTIONS, MAX_MARKS, MAX_POSITIONS, RECORD_SIZE, lists_of
 from require import require
-from settlement import INPUT_LIMIT, MAX_LOTS, Refused, record_checks, settle, sheet
+from settlement import INPUT_LIMIT, MAX_LOTS, Refused, make, record_checks, settle, sheet
 from theorems import ACCURACY, ladder_figure
 
 ROOT = Path(__file__).resolve().parent.parent
 PAGE = (ROOT / "docs" / "DAYFILE.md").read_text()
 CASE = (ROOT / "crates" / "cases" / "data" / "case_of_document_01").read_bytes()
+LONGEST = HEADER_SIZE + RECORD_SIZE * (MAX_MARKS + MAX_CORRECTIONS + MAX_POSITIONS)
 DAGGER = " †"
 HEADINGS = PRODUCT, VALUE, FILE, REFUSAL, FIGURES, _, _, _ = [
     "Prices and products",
@@ -91,9 +92,8 @@ def check_case():
 
 
 def check_limits():
-    longest = HEADER_SIZE + RECORD_SIZE * (MAX_MARKS + MAX_CORRECTIONS + MAX_POSITIONS)
-    mentions(under(FILE), HEADER_SIZE, RECORD_SIZE, MAX_MARKS, MAX_CORRECTIONS, MAX_POSITIONS, longest)
-    mentions(under(REFUSAL), MAX_MARKS, MAX_CORRECTIONS, MAX_POSITIONS, MAX_LOTS)
+    mentions(under(FILE), HEADER_SIZE, RECORD_SIZE, MAX_MARKS, MAX_CORRECTIONS, MAX_POSITIONS, LONGEST)
+    mentions(under(REFUSAL), MAX_MARKS, MAX_CORRECTIONS, MAX_POSITIONS, MAX_LOTS, LONGEST)
     mentions(under(FIGURES), INPUT_LIMIT)
 
 
@@ -192,15 +192,18 @@ def check_worked():
 
 
 def check_refusals():
-    """The numbers 1 to 16 are told one by one, here and in docs/REFUSALS.md, in one order, and of the same records."""
+    """The numbers 1 to 17 are told one by one, here and in docs/REFUSALS.md, in one order, and of the same records."""
     items = re.findall(r"^(\d+)\. (.*(?:\n +.*)*)", under(REFUSAL), re.MULTILINE)
     refusals = (ROOT / "docs" / "REFUSALS.md").read_text()
     for numbers in ([n for n, _ in items], re.findall(r"^(\d+)\. ", refusals, re.MULTILINE)):
-        require(list(map(int, numbers)) == list(range(1, 17)), "the numbers 1 to 16")
+        require(list(map(int, numbers)) == list(range(1, 18)), "the numbers 1 to 17")
+    mentions(refusals, LONGEST)
     words = rows(refusals, "number", "words", "the index counts")
-    order = [*range(1, 4), *(n for n, _, _ in record_checks(day())), 14]
-    says(f"of a file it is {' '.join(map(str, order))}.")
-    require([int(n) for n, _, _ in words] == [*order, 15], "the order of docs/REFUSALS.md")
+    of_records = [n for n, _, _ in record_checks(day())]
+    of_file, of_lists = [1, 2, 3, *of_records, 14], [2, 3, *of_records, 17]
+    says(f"of a file it is {' '.join(map(str, of_file))}.")
+    says(f" are {' '.join(map(str, of_lists))}, in this order.")
+    require([int(n) for n, _, _ in words] == [*of_file, 15, 17], "the order of docs/REFUSALS.md")
     counted = {n: records for n, _, records in words}
     for n, text in items:
         index, records = re.search(r"Index: (\w+)(, the later of the two)?\.", " ".join(text.split())), counted[n]
@@ -230,6 +233,26 @@ def check_answers():
         require(passes != isinstance(answer, Refused) and (passes or str(answer).startswith(said)), name)
 
 
+def check_made():
+    """The answers to small lists: a file of so many bytes, which has them, or a refusal."""
+    marks = lists_of(file(contracts(MAX_MARKS), [], []))[0]
+    lists = {
+        "three empty ones": (b"", b"", b""),
+        f"those of the {len(CASE)} bytes above": lists_of(CASE),
+        f"{MAX_MARKS} marks": (marks, b"", b""),
+        f"{MAX_MARKS} marks and 11 bytes": (marks + bytes(11), b"", b""),
+        f"{MAX_MARKS + 1} marks and 11 bytes": (marks + bytes(RECORD_SIZE + 11), b"", b""),
+        f"{MAX_MARKS} marks, and a position that names none": (marks, b"", position(mark=MAX_MARKS).packed()),
+    }
+    table = rows(under(FIGURES), "lists", "bytes of the buffer", "answer")
+    require({name for name, _, _ in table} == set(lists), "the lists that a file is made of")
+    for name, room, said in table:
+        answer = make(*lists[name], number(room))
+        made = isinstance(answer, bytes)
+        require(said.split(", ")[0] == (f"{len(answer):,} bytes" if made else str(answer)), name, room)
+        require(not made or lists_of(answer) == lists[name], "the file has", name)
+
+
 def check_names():
     """Every definition that is named stands in the file that is named, and so does every path."""
     for crate, specs, name in re.findall(r"`(\w+):\s(\w+)\.(\w+)`", PAGE):
@@ -247,7 +270,7 @@ def check_form():
 
 CHECKS = [
     *(check_form, check_names, check_case, check_limits, check_products, check_distances),
-    *(check_figures, check_formulas, check_worked, check_refusals, check_answers),
+    *(check_figures, check_formulas, check_worked, check_refusals, check_answers, check_made),
 ]
 
 if __name__ == "__main__":

@@ -108,10 +108,12 @@ read -ra with < <(flags --cflags --libs --static)
 gcc -std=c11 "${warnings[@]}" "$programs/example.c" -static "${with[@]}" -o "$work/static"
 prints "a C program with the static library" "$settled" "$work/static" <"$day"
 read -ra with < <(flags --cflags --libs)
+gcc -std=c11 "${warnings[@]}" "$programs/making.c" "${with[@]}" -Wl,-rpath,"$prefix/lib" -o "$work/making"
+prints "a C program that makes a day file" "" cmp <("$work/making") "$day"
 g++ -std=c++11 "${warnings[@]}" "$programs/example.cpp" "${with[@]}" -Wl,-rpath,"$prefix/lib" -o "$work/vectors"
 prints "a C++ program with empty vectors" $'refused 1, positions 0\nrefused 0, positions 0' "$work/vectors"
 gcc -std=c11 "${warnings[@]}" "$programs/lent.c" "${with[@]}" -Wl,-rpath,"$prefix/lib" -o "$work/lent"
-prints "null with length 0, and files and sheets at any byte" "" "$work/lent"
+prints "null with length 0, files, lists and sheets at any byte, and lists that overlap" "" "$work/lent"
 gcc -std=gnu11 "${warnings[@]}" -pthread "$programs/stack.c" "${with[@]}" -Wl,-rpath,"$prefix/lib" -o "$work/stack"
 stack=$("$work/stack") || fail "the stack that the header promises: $stack"
 ok "stack: $stack"
@@ -156,6 +158,7 @@ prints "the Python module is the installed one" "$PYTHONPATH/citronreef/__init__
 prints "a Python program" "98784544 cents
 (24060, -9624) 14436 0 1
 MarkPrices(previous=Decimal('95.0000'), final_price=Decimal('95.0100'), corrected_by=7, change_cents=2406)
+True
 7 0 a mark's price is not a multiple of its product's tick" python3 "$programs/example.py" <"$day"
 for test in python/test_*.py; do
     tested=$(python3 "$test" 2>&1) || fail "$test: $tested"
@@ -193,12 +196,13 @@ ok "a Rust build with a relative CITRONREEF_LIB says so"
 told=$(built "$prefix/lib") || fail "a Rust program is built: $told"
 prints "a Rust program" "[24060, -9624] cents, AUD 14436, NZD 0, resent 1
 MarkPrices { previous: 950000, final_price: 950100, corrected_by: Some(7), change: 2406 }
+true
 Error: Refusal { number: 7, index: 0 }" with_status 1 "$work/rust/target/debug/example" <"$day"
 
 # Documents
 
 page=$prefix/share/man/man1/citronreef.1
-python3 - "$page" "$documents" "$programs"/example.* <<'END' || exit 1
+python3 - "$page" "$documents" "$programs"/{example.*,making.c} <<'END' || exit 1
 """LIBRARY.md shows every program, the manual page has every row of REFUSALS.md, and no page names a page that is not installed."""
 import re
 import sys

@@ -87,12 +87,21 @@ def file_of(day, header=None):
     return struct.pack("<6I", *numbers) + b"".join(r.packed() for section in sections for r in section)
 
 
+def day_of(marks, corrections, positions):
+    """The day of three lists, each the bytes of whole records."""
+
+    def records(kind, section):
+        return [kind.unpacked(section[i : i + RECORD_SIZE]) for i in range(0, len(section), RECORD_SIZE)]
+
+    return Day(records(Mark, marks), records(Correction, corrections), records(Position, positions))
+
+
+def lists_of(file):
+    """The bytes of the three sections of a file that passes checks 1 to 3."""
+    _, marks_at, _, corrections_at, _, positions_at = struct.unpack_from("<6I", file)
+    return file[marks_at:corrections_at], file[corrections_at:positions_at], file[positions_at:]
+
+
 def sections_of(file):
     """The day of a file that passes checks 1 to 3."""
-    marks, _, corrections, _, positions, _ = struct.unpack_from("<6I", file)
-    records = [file[i : i + RECORD_SIZE] for i in range(HEADER_SIZE, len(file), RECORD_SIZE)]
-    return Day(
-        [Mark.unpacked(r) for r in records[:marks]],
-        [Correction.unpacked(r) for r in records[marks : marks + corrections]],
-        [Position.unpacked(r) for r in records[marks + corrections :]],
-    )
+    return day_of(*lists_of(file))

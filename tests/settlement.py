@@ -1,9 +1,9 @@
 #!/usr/bin/env python3
 """The settlement of a day file in plain Python, which shares nothing with the program it tests.
 
-It is written from document 01: "The day file", "Why a call is turned away" and the sheet. Check 16 was asked for afterwards.
-Records and layout are in records.py, and values come from calculator.py, in exact fractions. Nothing here is quick: a clash of
-marks or of corrections is looked for among all earlier records.
+It is written from document 01: "The day file", "Why a call is turned away" and the sheet. Check 16 and the making of a file were
+asked for afterwards. Records and layout are in records.py, and values come from calculator.py, in exact fractions. Nothing here is
+quick: a clash of marks or of corrections is looked for among all earlier records.
 
   settlement.py < file     prints the sheet of a day file
 """
@@ -13,7 +13,7 @@ from dataclasses import dataclass
 
 import calculator
 from calculator import PRICE_LIMIT, PRODUCTS
-from records import HEADER_SIZE, MAX_CORRECTIONS, MAX_MARKS, MAX_POSITIONS, RECORD_SIZE, header_numbers, sections_of
+from records import HEADER_SIZE, MAX_CORRECTIONS, MAX_MARKS, MAX_POSITIONS, RECORD_SIZE, day_of, header_numbers, sections_of
 
 MAX_LOTS = 1_000_000
 MAX_YEAR = 99
@@ -49,13 +49,17 @@ class Settled:
 # Checks
 
 
+def is_too_many(marks, corrections, positions):
+    return marks > MAX_MARKS or corrections > MAX_CORRECTIONS or positions > MAX_POSITIONS
+
+
 def layout_refusal(file):
     """Checks 1, 2 and 3: the first that the file fails, or None."""
     if len(file) < HEADER_SIZE:
         return Refused(1, 0)
     header = struct.unpack_from("<6I", file)
     marks, _, corrections, _, positions, _ = header
-    if marks > MAX_MARKS or corrections > MAX_CORRECTIONS or positions > MAX_POSITIONS:
+    if is_too_many(marks, corrections, positions):
         return Refused(2, 0)
     records = marks + corrections + positions
     if header != header_numbers(marks, corrections, positions) or len(file) != HEADER_SIZE + RECORD_SIZE * records:
@@ -194,6 +198,27 @@ def settle(file, places):
     if places < len(day.positions):
         return Refused(14, 0)
     return settled(day)
+
+
+# The making of a file
+
+
+def make(marks, corrections, positions, room):
+    """The day file of three lists of record bytes, for a buffer of so many bytes, or why it is refused."""
+    lists = (marks, corrections, positions)
+    counts = [len(section) // RECORD_SIZE for section in lists]
+    if is_too_many(*counts):
+        return Refused(2, 0)
+    if any(len(section) % RECORD_SIZE for section in lists):
+        return Refused(3, 0)
+    refused = record_refusal(day_of(*lists))
+    if refused:
+        return refused
+    header = header_numbers(*counts)
+    file = bytearray(struct.pack("<6I", *header) + bytes(RECORD_SIZE * sum(counts)))
+    for offset, section in zip(header[1::2], lists):
+        file[offset : offset + len(section)] = section
+    return bytes(file) if len(file) <= room else Refused(17, 0)
 
 
 # The sheet

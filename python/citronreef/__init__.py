@@ -1,4 +1,4 @@
-"""Citronreef for Python: values of one ASX 24 rate futures contract, the settlement of a day file, and its sheet.
+"""Citronreef for Python: values of one ASX 24 rate futures contract, and the settlement, sheet and making of a day file.
 
 Prices are Decimal, as quoted: Decimal("95.01"). Amounts are whole cents. A call that is refused raises Refusal.
 
@@ -18,13 +18,14 @@ import ctypes
 from decimal import Decimal
 from typing import Optional, Union
 
-from .answers import NO_BOND, NO_SUCH_MARK, WORDS, MarkPrices, Refusal, Settled
-from .library import MAX_POSITIONS, SHEET_SIZE, VERSION, Amounts, Sheet, loaded
+from .answers import NO_BOND, NO_SUCH_MARK, NOT_WHOLE, WORDS, MarkPrices, Refusal, Settled
+from .library import FILE_SIZE, MAX_POSITIONS, SHEET_SIZE, VERSION, Amounts, File, Sheet, loaded
 from .prices import price_of, scaled, units_of
 
 __all__ = [
     "MAX_CORRECTIONS", "MAX_LOTS", "MAX_MARKS", "MAX_POSITIONS", "PRICE_LIMIT", "VERSION", "WORDS",
-    "MarkPrices", "Refusal", "Settled", "bracket", "find", "mark", "price_of", "settle", "sheet", "tick_value", "units_of", "value",
+    "MarkPrices", "Refusal", "Settled",
+    "bracket", "find", "make", "mark", "price_of", "settle", "sheet", "tick_value", "units_of", "value",
 ]
 
 PRICE_LIMIT = Decimal("100.0000")
@@ -50,10 +51,10 @@ def _letters(code: str) -> bytes:
     return code.encode()
 
 
-def _bytes(file: Bytes) -> bytes:
-    if not isinstance(file, (bytes, bytearray, memoryview)):
-        raise TypeError(f"a day file is bytes, and not {type(file).__name__}")
-    return bytes(file)
+def _bytes(lent: Bytes, what: str = "a day file") -> bytes:
+    if not isinstance(lent, (bytes, bytearray, memoryview)):
+        raise TypeError(f"{what} is bytes, and not {type(lent).__name__}")
+    return bytes(lent)
 
 
 def _whole(number: int, what: str) -> int:
@@ -145,3 +146,30 @@ def sheet(file: Bytes) -> str:
     file, amounts, out = _bytes(file), Amounts(), Sheet()
     length = _library.citronreef_sheet(file, len(file), amounts, MAX_POSITIONS, out, SHEET_SIZE)
     return ctypes.string_at(out, length).decode("ascii")
+
+
+def make(marks: Bytes, corrections: Bytes, positions: Bytes) -> bytes:
+    """Makes a day file of three lists, each the bytes of its records, 12 for each.
+
+    The lists of a file that passes checks 1 to 13 and 16 make that file. A list with more records than a file may have is refused
+    with 2, then one that is not whole records with 3, and then 4 to 13 and 16 look at the records as at those of a file.
+
+    >>> import struct
+    >>> marks = struct.pack("<2sBBII", b"IR", 3, 27, 950_000, 950_100)
+    >>> positions = struct.pack("<IIi", 11, 0, 10) + struct.pack("<IIi", 12, 0, -4)
+    >>> file = make(marks, b"", positions)
+    >>> len(file), settle(file).amounts_cents
+    (60, (24060, -9624))
+    >>> make(b"", b"", positions)
+    Traceback (most recent call last):
+    citronreef.answers.Refusal: refused 12 at 0: a position names no mark
+    """
+    lists = [_bytes(records, "a list of records") for records in (marks, corrections, positions)]
+    lent = [argument for records in lists for argument in (records, len(records))]
+    out = File()
+    made = _library.citronreef_make(*lent, out, FILE_SIZE)
+    if made.refused == 3:
+        raise Refusal(3, made.index, NOT_WHOLE)
+    if made.refused:
+        raise Refusal(made.refused, made.index)
+    return ctypes.string_at(out, made.length)

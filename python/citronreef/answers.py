@@ -23,10 +23,12 @@ WORDS = (
     "the amounts slice has fewer places than the file has positions",
     "a tick value is asked for where the price one tick higher is above 100.0000",
     "two positions agree in account and mark",
+    "the lent buffer is shorter than the file",
 )
 
 
-# What 4 means for the bracket of a code that is listed, and 12 for a mark that is asked for.
+# What 3 means for lists that a file is made of, 4 for the bracket of a code that is listed, and 12 for a mark that is asked for.
+NOT_WHOLE = "a list is not whole records"
 NO_BOND = "the code is of no bond, and only a bond has a bracket"
 NO_SUCH_MARK = "the file has no such mark"
 
@@ -34,7 +36,8 @@ NO_SUCH_MARK = "the file has no such mark"
 class Refusal(Exception):
     """A call that is refused: the number of the check, the index of the record in its section, and the check in words.
 
-    The words are those of WORDS, but where a bracket or a mark is asked for that there is not.
+    The words are those of WORDS, but where a bracket or a mark is asked for that there is not, and for a list that is not whole
+    records.
     """
 
     def __init__(self, number: int, index: int = 0, words: Optional[str] = None) -> None:

@@ -9,6 +9,7 @@ from pathlib import Path
 VERSION = "0.1.0"
 MAX_POSITIONS = 4_096
 SHEET_SIZE = 192_602
+FILE_SIZE = 58_392
 
 
 class _Quote(ctypes.Structure):
@@ -33,10 +34,15 @@ class _Found(ctypes.Structure):
     _fields_ = [("found", c_uint64), ("index", c_uint64)]
 
 
+class _Made(ctypes.Structure):
+    _fields_ = [("refused", c_uint64), ("index", c_uint64), ("length", c_uint64)]
+
+
 Amounts = c_int64 * MAX_POSITIONS
 Sheet = c_uint8 * SHEET_SIZE
+File = c_uint8 * FILE_SIZE
 
-# Each function with its answer and its arguments. A file is a pointer and then a length.
+# Each function with its answer and its arguments. A file or a list of records is a pointer and then a length.
 _SIGNATURES = {
     "value": (_Quote, (c_uint8, c_uint8, c_uint32)),
     "tick_value": (_Quote, (c_uint8, c_uint8, c_uint32)),
@@ -45,6 +51,7 @@ _SIGNATURES = {
     "mark": (_MarkPrices, (c_char_p, c_size_t, c_size_t)),
     "find": (_Found, (c_char_p, c_size_t, c_uint32)),
     "sheet": (c_size_t, (c_char_p, c_size_t, Amounts, c_size_t, Sheet, c_size_t)),
+    "make": (_Made, (*(c_char_p, c_size_t) * 3, File, c_size_t)),
 }
 
 

@@ -1,4 +1,4 @@
-// Settles no bytes at all, and the header of an empty day, into an empty vector of amounts.
+// Settles no bytes at all, and the file that is made of three empty lists, into an empty vector of amounts.
 #include <citronreef.h>
 #include <cstdint>
 #include <iostream>
@@ -14,5 +14,10 @@ static void print(const std::vector<std::uint8_t> &file)
 int main()
 {
     print({});
-    print({0, 0, 0, 0, 24, 0, 0, 0, 0, 0, 0, 0, 24, 0, 0, 0, 0, 0, 0, 0, 24, 0, 0, 0});
+    const std::vector<std::uint8_t> none;
+    std::vector<std::uint8_t> file(CITRONREEF_FILE_SIZE);
+    const citronreef_made made = citronreef_make(none.data(), none.size(), none.data(), none.size(), none.data(),
+                                                 none.size(), file.data(), file.size());
+    file.resize(made.length);
+    print(file);
 }

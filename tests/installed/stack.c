@@ -1,7 +1,7 @@
 /*
  * Measures how much stack each call takes: in a thread, the stack below the call is painted, the call is made, and the deepest
  * byte that changed is looked for. The files are full ones, whole, with a fault for each check, and with positions of which many
- * are sifted anew. Fails where a call takes more than CITRONREEF_STACK_KIB.
+ * are sifted anew; files are made of their lists. Fails where a call takes more than CITRONREEF_STACK_KIB.
  */
 #include "citronreef.h"
 #include <pthread.h>
@@ -11,6 +11,7 @@
 enum { MARKS = CITRONREEF_MAX_MARKS, CORRECTIONS = CITRONREEF_MAX_CORRECTIONS, POSITIONS = CITRONREEF_MAX_POSITIONS };
 enum { CORRECTIONS_AT = 24 + 12 * MARKS, POSITIONS_AT = CORRECTIONS_AT + 12 * CORRECTIONS };
 enum { FILE_SIZE = POSITIONS_AT + 12 * POSITIONS, STACK = 256 << 10, PAINT = 0xA5 };
+_Static_assert(FILE_SIZE == CITRONREEF_FILE_SIZE, "the length of a full file");
 
 static uint8_t *stack, file[FILE_SIZE], out[CITRONREEF_SHEET_SIZE];
 static int64_t amounts[POSITIONS];
@@ -30,9 +31,24 @@ static void find(void)
         citronreef_find(file, length, check);
 }
 
+/* Makes a file of this one's lists, with so many bytes more of marks, into this room; answers the check that refuses it, or 0. */
+static uint64_t made(size_t more, size_t room)
+{
+    const uint8_t *marks = file + 24, *corrections = file + CORRECTIONS_AT, *positions = file + POSITIONS_AT;
+    return citronreef_make(marks, 12 * MARKS + more, corrections, 12 * CORRECTIONS, positions, 12 * POSITIONS, out, room).refused;
+}
+
+static void make(void)
+{
+    made(0, FILE_SIZE);
+    made(0, FILE_SIZE - 1);
+    made(1, FILE_SIZE);
+    made(12, FILE_SIZE);
+}
+
 static const struct { const char *name; void (*call)(void); } calls[] = {
     {"value", value}, {"tick_value", tick_value}, {"bracket", bracket}, {"settle", settle},
-    {"mark", mark}, {"sheet", sheet}, {"find", find},
+    {"mark", mark}, {"sheet", sheet}, {"find", find}, {"make", make},
 };
 enum { CALLS = sizeof calls / sizeof *calls };
 static size_t deepest[CALLS];
@@ -134,10 +150,19 @@ static const struct { uint64_t check; size_t at; uint32_t number; } faults[] = {
     {16, FILE_SIZE - 12, MARKS - 1},
 };
 
+/* Whether the file is refused with this check, or with none where it is 0, and so are its lists, which have no header to refuse. */
+static int is_refused(uint64_t check)
+{
+    uint64_t of_lists = check < 4 ? 0 : check;
+    return citronreef_settle(file, length, amounts, POSITIONS).refused == check
+        && made(0, FILE_SIZE) == of_lists && made(0, FILE_SIZE - 1) == (of_lists ? of_lists : 17)
+        && made(1, FILE_SIZE) == 3 && made(12, FILE_SIZE) == 2;
+}
+
 /* Measures the calls on the file, which this check must refuse, or none where it is 0. */
 static void measure_refused(uint64_t check)
 {
-    if (citronreef_settle(file, length, amounts, POSITIONS).refused != check) {
+    if (!is_refused(check)) {
         printf("a file is not refused with %d as it should be\n", (int)check);
         exit(2);
     }

@@ -19,7 +19,7 @@ pub struct Refusal {
 }
 
 /// What each check refuses, by its number from 1.
-const WORDS: [&str; 16] = [
+const WORDS: [&str; 17] = [
     "the file is shorter than 24 bytes",
     "a count is above its limit",
     "an offset or the file's length differs from the layout",
@@ -36,6 +36,7 @@ const WORDS: [&str; 16] = [
     "the amounts slice has fewer places than the file has positions",
     "a tick value is asked for where the price one tick higher is above 100.0000",
     "two positions agree in account and mark",
+    "the lent buffer is shorter than the file",
 ];
 
 impl Refusal {
@@ -50,8 +51,8 @@ impl Refusal {
         Refusal { number, index: 0 }
     }
 
-    /// The condition of the check, in words. They go by the number alone; [`bracket`](crate::bracket) and [`mark`](crate::mark)
-    /// say what else 4 and 12 mean there.
+    /// The condition of the check, in words. They go by the number alone; [`make`](crate::make), [`bracket`](crate::bracket) and
+    /// [`mark`](crate::mark) say what else 3, 4 and 12 mean there.
     ///
     /// ```
     /// let refusal = citronreef::settle(&[], &mut []).unwrap_err();
@@ -66,7 +67,7 @@ impl Refusal {
 ///
 /// ```
 /// assert_eq!(citronreef::words(12), "a position names no mark");
-/// assert_eq!(citronreef::words(17), "");
+/// assert_eq!(citronreef::words(18), "");
 /// ```
 pub fn words(number: u32) -> &'static str {
     (number as usize).checked_sub(1).and_then(|place| WORDS.get(place)).copied().unwrap_or("")

@@ -1,5 +1,6 @@
 //! Safe functions over the proved library: the value, tick value and bracket of one contract, the settlement of a day file,
-//! what is said of its marks, where a check's condition holds in it, and its sheet. The answers are those of document 01.
+//! what is said of its marks, where a check's condition holds in it, its sheet, and the day file of three lists. The answers are
+//! those of document 01.
 //!
 //! Prices are whole numbers of units of 0.0001, so that 95.01 is 950,100; amounts are whole cents. A call that is refused
 //! answers a [`Refusal`]. The functions keep nothing and allocate nothing, and may be called from many threads at once.
@@ -11,6 +12,7 @@ pub mod records;
 mod sys;
 
 pub use answers::{words, MarkPrices, Refusal, Settled};
+use records::{HEADER_SIZE, MAX_CORRECTIONS, MAX_MARKS, MAX_POSITIONS, RECORD_SIZE};
 
 /// The version of this package, which is also that of the library and its header.
 pub const VERSION: &str = env!("CARGO_PKG_VERSION");
@@ -131,7 +133,7 @@ pub fn find(file: &[u8], check: u32) -> Option<usize> {
 }
 
 /// No sheet is longer than this, in bytes.
-pub const SHEET_SIZE: usize = 47 * records::MAX_POSITIONS + 90;
+pub const SHEET_SIZE: usize = 47 * MAX_POSITIONS + 90;
 
 /// Settles a day file as `settle` does, writes its sheet at the start of `out`, and answers the sheet's length; the other bytes
 /// of `out` stay. With room for less than `SHEET_SIZE` bytes nothing is written, neither sheet nor amounts, and the answer is 0.
@@ -146,4 +148,52 @@ pub fn write_sheet(file: &[u8], amounts: &mut [i64], out: &mut [u8]) -> usize {
     let (places, room) = (amounts.len(), out.len());
     // SAFETY: as in `settle`.
     unsafe { sys::citronreef_sheet(file.as_ptr(), file.len(), amounts.as_mut_ptr(), places, out.as_mut_ptr(), room) }
+}
+
+/// No day file that is accepted is longer than this, in bytes.
+pub const FILE_SIZE: usize = HEADER_SIZE + RECORD_SIZE * (MAX_MARKS + MAX_CORRECTIONS + MAX_POSITIONS);
+
+/// Makes a day file of three lists, each lent as the bytes of its records, 12 for each: writes it at the start of `out`, and answers
+/// its length. The other bytes of `out` stay; a refusal writes nothing. The file's sections are the three lists, and the lists of a
+/// file that passes make that file. `FILE_SIZE` bytes are enough for every file.
+///
+/// The checks are, in this order: 2, where a list has more whole records than a file may have; 3, where a list is not whole records;
+/// 4 to 13 and 16, as of a file that has these lists; and 17, where `out` is shorter than the file. The index of 2, 3 and 17 is 0. The
+/// words of a [`Refusal`] go by its number alone and do not say what 3 means here.
+///
+/// ```
+/// use citronreef::records::{Day, Mark, Position};
+/// use citronreef::{make, Refusal};
+///
+/// let day = Day {
+///     marks: vec![Mark { code: *b"IR", month: 3, year: 27, previous: 950_000, today: 950_100 }],
+///     corrections: vec![],
+///     positions: vec![Position { account: 11, mark: 0, lots: 10 }, Position { account: 12, mark: 0, lots: -4 }],
+/// };
+/// let [marks, corrections, positions] = day.lists();
+/// let mut out = [0xEE; 64];
+/// let length = make(&marks, &corrections, &positions, &mut out)?;
+/// assert_eq!(length, 24 + 12 + 24);
+/// assert_eq!(out[..length], day.bytes());
+/// assert_eq!(out[length..], [0xEE; 4]);
+/// assert_eq!(make(&marks, &corrections, &positions, &mut out[..length - 1]), Err(Refusal::of(17)));
+/// assert_eq!(make(&marks, &corrections, &positions[1..], &mut out), Err(Refusal::of(3)));
+/// assert_eq!(make(&[], &[], &positions, &mut out), Err(Refusal::of(12)));
+/// # Ok::<(), Refusal>(())
+/// ```
+pub fn make(marks: &[u8], corrections: &[u8], positions: &[u8], out: &mut [u8]) -> Result<usize, Refusal> {
+    // SAFETY: each pointer comes with the length of its slice, and what is written overlaps none of the lists.
+    unsafe {
+        sys::citronreef_make(
+            marks.as_ptr(),
+            marks.len(),
+            corrections.as_ptr(),
+            corrections.len(),
+            positions.as_ptr(),
+            positions.len(),
+            out.as_mut_ptr(),
+            out.len(),
+        )
+    }
+    .answer()
 }

@@ -178,7 +178,24 @@ pub fn header(marks: usize, corrections: usize, positions: usize) -> [usize; 6] 
 }
 
 impl Day {
-    /// The day file of these records.
+    /// The bytes of the marks, the corrections and the positions, as [`make`](crate::make) takes them.
+    ///
+    /// ```
+    /// use citronreef::records::{Day, Position};
+    ///
+    /// let position = Position { account: 11, mark: 0, lots: 10 };
+    /// let day = Day { positions: vec![position; 2], ..Day::default() };
+    /// assert_eq!(day.lists(), [vec![], vec![], [position.bytes(); 2].concat()]);
+    /// ```
+    pub fn lists(&self) -> [Vec<u8>; 3] {
+        [
+            self.marks.iter().flat_map(Mark::bytes).collect(),
+            self.corrections.iter().flat_map(Correction::bytes).collect(),
+            self.positions.iter().flat_map(Position::bytes).collect(),
+        ]
+    }
+
+    /// The day file of these records, whether they pass the checks or not: [`make`](crate::make) makes one that does.
     ///
     /// ```
     /// use citronreef::records::{Day, Position};
@@ -190,9 +207,7 @@ impl Day {
     pub fn bytes(&self) -> Vec<u8> {
         let numbers = header(self.marks.len(), self.corrections.len(), self.positions.len());
         let mut file: Vec<u8> = numbers.iter().flat_map(|&n| (n as u32).to_le_bytes()).collect();
-        file.extend(self.marks.iter().flat_map(Mark::bytes));
-        file.extend(self.corrections.iter().flat_map(Correction::bytes));
-        file.extend(self.positions.iter().flat_map(Position::bytes));
+        file.extend(self.lists().concat());
         file
     }
 }

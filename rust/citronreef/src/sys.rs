@@ -35,6 +35,13 @@ pub struct Found {
     index: u64,
 }
 
+#[repr(C)]
+pub struct Made {
+    refused: u64,
+    index: u64,
+    length: u64,
+}
+
 extern "C" {
     pub fn citronreef_value(first: u8, second: u8, price: u32) -> Quote;
     pub fn citronreef_tick_value(first: u8, second: u8, price: u32) -> Quote;
@@ -50,6 +57,16 @@ extern "C" {
         out: *mut u8,
         room: usize,
     ) -> usize;
+    pub fn citronreef_make(
+        marks: *const u8,
+        marks_length: usize,
+        corrections: *const u8,
+        corrections_length: usize,
+        positions: *const u8,
+        positions_length: usize,
+        out: *mut u8,
+        room: usize,
+    ) -> Made;
 }
 
 impl Quote {
@@ -92,5 +109,14 @@ impl MarkOutcome {
 impl Found {
     pub fn answer(self) -> Option<usize> {
         (self.found == 1).then_some(self.index as usize)
+    }
+}
+
+impl Made {
+    pub fn answer(self) -> Result<usize, Refusal> {
+        match self.refused {
+            0 => Ok(self.length as usize),
+            number => Err(Refusal { number: number as u32, index: self.index as usize }),
+        }
     }
 }

@@ -7,7 +7,7 @@ use std::path::Path;
 use citronreef::records::{
     Correction, Day, Mark, Position, MAX_CORRECTIONS, MAX_LOTS, MAX_MARKS, MAX_POSITIONS, PRICE_LIMIT, UNITS_PER_POINT,
 };
-use citronreef::{settle, tick_value, value, words, write_sheet, Refusal, SHEET_SIZE, VERSION};
+use citronreef::{make, settle, tick_value, value, words, write_sheet, Refusal, FILE_SIZE, SHEET_SIZE, VERSION};
 
 fn text_of(name: &str) -> String {
     let root = Path::new(env!("CARGO_MANIFEST_DIR")).ancestors().nth(2).expect("the package stands in the repository");
@@ -25,11 +25,11 @@ fn words_are_those_of_the_table() {
     let text = text_of("docs/REFUSALS.md");
     let rows: Vec<_> = text.lines().filter_map(row).collect();
     let numbers: Vec<u32> = rows.iter().map(|&(number, _)| number).collect();
-    assert_eq!(numbers, [1, 2, 3, 4, 5, 6, 7, 8, 9, 10, 11, 12, 13, 16, 14, 15]);
+    assert_eq!(numbers, [1, 2, 3, 4, 5, 6, 7, 8, 9, 10, 11, 12, 13, 16, 14, 15, 17]);
     for (number, said) in rows {
         assert_eq!(words(number), said);
     }
-    for number in [0, 17, u32::MAX] {
+    for number in [0, 18, u32::MAX] {
         assert_eq!(words(number), "");
     }
 }
@@ -53,6 +53,7 @@ fn header_has_the_same_version_and_limits() {
     assert_eq!(number("MAX_LOTS"), MAX_LOTS as usize);
     assert_eq!(number("PRICE_LIMIT"), PRICE_LIMIT as usize);
     assert_eq!(number("UNITS_PER_POINT"), UNITS_PER_POINT as usize);
+    assert_eq!(number("FILE_SIZE"), FILE_SIZE);
     assert_eq!(number("SHEET_SIZE"), SHEET_SIZE);
 }
 
@@ -89,6 +90,16 @@ fn limits_of_the_counts() {
     assert_eq!(refused(&day(MAX_MARKS + 1, 0, 0)), 2);
     assert_eq!(refused(&day(1, MAX_CORRECTIONS + 1, 0)), 2);
     assert_eq!(refused(&day(1, 0, MAX_POSITIONS + 1)), 2);
+}
+
+#[test]
+fn size_of_a_file() {
+    let full = day(MAX_MARKS, MAX_CORRECTIONS, MAX_POSITIONS);
+    let [marks, corrections, positions] = full.lists();
+    let mut out = vec![0; FILE_SIZE];
+    assert_eq!(make(&marks, &corrections, &positions, &mut out[1..]), Err(Refusal::of(17)));
+    assert_eq!(make(&marks, &corrections, &positions, &mut out), Ok(FILE_SIZE));
+    assert_eq!(out, full.bytes());
 }
 
 #[test]

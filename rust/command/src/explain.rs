@@ -21,7 +21,7 @@ use std::path::Path;
 pub fn run(file: Option<&Path>, is_text: bool, csv: bool, out: Option<&Path>) -> Ended {
     let (bytes, lines) = match is_text {
         true => match readable::made(file)? {
-            Some(made) => (made.bytes, Some(made.lines)),
+            Some(made) => (made.bytes(), Some(made.lines)),
             None => return Ok(Ending::Refused),
         },
         false => (input::read(file, Kind::DayFile, INPUT_LIMIT + 1)?, None),

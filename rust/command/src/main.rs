@@ -1,5 +1,5 @@
-//! `citronreef`: sheets and explanations of day files, and day files as readable texts. What is settled, priced or refused is the proved
-//! library's answer; the command reads, asks, looks up and prints.
+//! `citronreef`: sheets and explanations of day files, and day files as readable texts. What is settled, priced, made or refused is the
+//! proved library's answer; the command reads, asks, looks up and prints.
 #![cfg_attr(not(test), no_main)]
 
 mod arguments;

@@ -3,14 +3,14 @@
 use crate::ending::{Ended, Ending};
 use crate::input::{self, Kind};
 use crate::output;
-use citronreef::records::{HEADER_SIZE, MAX_CORRECTIONS, MAX_MARKS, MAX_POSITIONS, RECORD_SIZE};
-use citronreef::{write_sheet, SHEET_SIZE};
+use citronreef::records::MAX_POSITIONS;
+use citronreef::{write_sheet, FILE_SIZE, SHEET_SIZE};
 use std::path::Path;
 
 /// How much is read of a day file, as by the Rattle program `sheet`. It is more than any file has that is accepted; of a longer one it
 /// makes no difference how long it is, since the counts and offsets are in the header and no layout has this length.
 pub const INPUT_LIMIT: usize = 65_536;
-const _: () = assert!(HEADER_SIZE + RECORD_SIZE * (MAX_MARKS + MAX_CORRECTIONS + MAX_POSITIONS) < INPUT_LIMIT);
+const _: () = assert!(FILE_SIZE < INPUT_LIMIT);
 
 /// How the sheet of a file starts that is refused. The sheet of any other file starts with a digit or with `total`.
 const REFUSED: &[u8] = b"refused ";

@@ -1,5 +1,5 @@
-//! The readable text of a day file: `made` turns a text into a file, `shown` writes the text of any bytes. The text and its grammar
-//! are described in docs/TEXT.md. Whether the records pass the checks is not looked at here.
+//! The readable text of a day file: `made` turns a text into the parts of a file, `shown` writes the text of any bytes. The text and its
+//! grammar are described in docs/TEXT.md. Whether the records pass the checks is not looked at here.
 
 mod draft;
 mod layout;
@@ -19,11 +19,28 @@ pub use showing::shown;
 use std::error::Error;
 use std::fmt;
 
-/// A file that was made of a text, and where its records stand there.
+/// The parts of the file that a text describes, and where its records stand in the text.
 #[derive(Clone, Debug, PartialEq, Eq)]
 pub struct Made {
-    pub bytes: Vec<u8>,
+    pub header: Vec<u8>,
+    /// The bytes of the marks, the corrections and the positions.
+    pub lists: [Vec<u8>; 3],
+    /// Further bytes.
+    pub rest: Vec<u8>,
     pub lines: Lines,
+}
+
+impl Made {
+    /// The bytes of the file, which may be refused.
+    pub fn bytes(&self) -> Vec<u8> {
+        let [marks, corrections, positions] = &self.lists;
+        [&self.header[..], marks, corrections, positions, &self.rest].concat()
+    }
+
+    /// Whether the text says more than its three lists: a header, or further bytes.
+    pub fn has_own_layout(&self) -> bool {
+        self.lines.header.is_some() || !self.lines.rest.is_empty()
+    }
 }
 
 /// What is wrong with a line of a text. The words start with the field, as in `field 4: ..`, where one field is wrong; the line's

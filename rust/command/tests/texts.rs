@@ -1,7 +1,8 @@
 //! `citronreef make` and `citronreef show` as processes.
 
-use citronreef::records::RECORD_SIZE;
-use oracles::days::{damage_bytes, damage_record, day};
+use citronreef::records::{header, MAX_CORRECTIONS, MAX_MARKS, MAX_POSITIONS, RECORD_SIZE};
+use citronreef::FILE_SIZE;
+use oracles::days::{damage_bytes, damage_record, day, day_of};
 use oracles::random::Random;
 use std::io::Write;
 use std::path::{Path, PathBuf};
@@ -47,6 +48,46 @@ fn samples_are_made_and_shown() {
         assert_eq!(written(&["make"], &shown), file);
         assert!(String::from_utf8_lossy(&shown).contains("# position 1\n"));
         fs::remove_file(out).expect("the file that was made");
+    }
+}
+
+/// What is written is what the library makes of the day's lists. A header line that has the layout's numbers changes nothing.
+#[test]
+fn accepted_texts_make_the_librarys_file() {
+    let mut random = Random::new(6_906_969_069);
+    for _ in 0..100 {
+        let day = day(&mut random);
+        let [marks, corrections, positions] = day.lists();
+        let mut file = vec![0; FILE_SIZE];
+        let length = citronreef::make(&marks, &corrections, &positions, &mut file).expect("every check passes");
+        assert!(file[..length] == day.bytes());
+        let text = written(&["show"], &file[..length]);
+        let numbers = header(day.marks.len(), day.corrections.len(), day.positions.len()).map(|number| number.to_string());
+        let with_header = [&text[..], format!("header {}\n", numbers.join(" ")).as_bytes()].concat();
+        for text in [text, with_header] {
+            assert!(written(&["make"], &text) == file[..length], "{}", String::from_utf8_lossy(&text));
+            assert!(written(&["make", "--anyway"], &text) == file[..length]);
+        }
+    }
+}
+
+#[test]
+fn texts_above_a_limit() {
+    let mut random = Random::new(1_664_525_001);
+    let at_most = [MAX_MARKS, MAX_CORRECTIONS, MAX_POSITIONS];
+    for section in 0..3 {
+        let mut counts = [1, 0, 0];
+        counts[section] = at_most[section] + 1;
+        let file = day_of(&mut random, counts[0], counts[1], counts[2]).bytes();
+        let text = written(&["show"], &file);
+        let output = run(&["make"], &text);
+        let said = String::from_utf8_lossy(&output.stderr).into_owned();
+        assert_eq!((output.status.code(), output.stdout.len()), (Some(1), 0));
+        assert!(
+            said.starts_with("refused 2 at 0: a count is above its limit\n") && said.contains("<-- above the limit"),
+            "{said}"
+        );
+        assert!(written(&["make", "--anyway"], &text) == file);
     }
 }
 

@@ -1,14 +1,15 @@
-//! Times the proved library against the same job in Rust: plain pair loops, and hash tables with nothing quadratic.
+//! Times the proved library against the same job in Rust: plain pair loops, and hash tables with nothing quadratic; and for making a
+//! file, one that was made to take little time.
 //!
 //!   rt check sheet && rt staticlib citronreef && cd rust && cargo build --release --examples && cargo run --release --example bench
 
 use citronreef::records::{u32_at, Day, MAX_CORRECTIONS, MAX_MARKS, MAX_POSITIONS, RECORD_SIZE};
-use citronreef::{settle, tick_value, value, write_sheet, Refusal, Settled, SHEET_SIZE};
+use citronreef::{make, settle, tick_value, value, write_sheet, Refusal, Settled, FILE_SIZE, SHEET_SIZE};
 use oracles::days::{day_of, day_of_products};
 use oracles::products::{self, Product, PRICE_LIMIT, PRODUCTS};
 use oracles::random::Random;
 use oracles::sheet::sheet;
-use oracles::{hashed, plain};
+use oracles::{hashed, plain, quick};
 use std::io::Write;
 use std::path::Path;
 use std::process::{Command, Stdio};
@@ -17,6 +18,7 @@ use std::time::Instant;
 const RUNS: usize = 301;
 
 type Settle = fn(&[u8], &mut [i64]) -> Result<Settled, Refusal>;
+type Make = fn(&[u8], &[u8], &[u8], &mut [u8]) -> Result<usize, Refusal>;
 type Value = fn([u8; 2], u32) -> Result<u64, Refusal>;
 type Renew = fn(&mut Random, &mut [u8]);
 
@@ -168,22 +170,28 @@ fn scattered(number: u32) -> u32 {
     number ^ (number >> 16)
 }
 
-/// Gives each position of a file an account of its own, none of them foreseen.
-fn renew_accounts(random: &mut Random, file: &mut [u8]) {
-    let (first, start) = (random.number() as u32, u32_at(file, 20) as usize);
-    for (index, record) in file[start..].chunks_exact_mut(RECORD_SIZE).enumerate() {
+/// Gives each position an account of its own, none of them foreseen.
+fn renew_accounts(random: &mut Random, positions: &mut [u8]) {
+    let first = random.number() as u32;
+    for (index, record) in positions.chunks_exact_mut(RECORD_SIZE).enumerate() {
         let account = scattered(first.wrapping_add(index as u32));
         record[..4].copy_from_slice(&account.to_le_bytes());
     }
 }
 
 /// The same with both places of each position in the first 64th.
-fn renew_crowded(random: &mut Random, file: &mut [u8]) {
-    let (mut numbers, start) = (crowd(random.number() as u32), u32_at(file, 20) as usize);
-    for record in file[start..].chunks_exact_mut(RECORD_SIZE) {
+fn renew_crowded(random: &mut Random, positions: &mut [u8]) {
+    let mut numbers = crowd(random.number() as u32);
+    for record in positions.chunks_exact_mut(RECORD_SIZE) {
         let account = crowded_account(&mut numbers, u32_at(record, 4));
         record[..4].copy_from_slice(&account.to_le_bytes());
     }
+}
+
+/// The positions of a file.
+fn positions_of(file: &mut [u8]) -> &mut [u8] {
+    let start = u32_at(file, 20) as usize;
+    &mut file[start..]
 }
 
 /// Days that are not like the others, of 4,096 positions but for the last three.
@@ -225,7 +233,7 @@ fn print_renewed(random: &mut Random) {
     ];
     for (label, marks, renew) in rows {
         let day = with_distinct_numbers(day_of(random, marks, MAX_CORRECTIONS, MAX_POSITIONS));
-        print_settle_row(label, settle_times_after(&day, |file| renew(random, file)));
+        print_settle_row(label, settle_times_after(&day, |file| renew(random, positions_of(file))));
     }
 }
 
@@ -247,6 +255,45 @@ fn print_settle() {
     print_renewed(&mut random);
     let [proved, plain, hashed] = growth;
     println!("growth from N = 2048 to 4096: proved {proved:.2}, plain {plain:.2}, hashed {hashed:.2} times\n");
+}
+
+/// The times of the four makers on a day's lists, in microseconds: proved, plain, hashed, quick. What is done to the positions before each
+/// call is not timed.
+fn make_times(day: &Day, mut before: impl FnMut(&mut [u8])) -> [f64; 4] {
+    let [marks, corrections, mut positions] = day.lists();
+    let mut out = vec![0; FILE_SIZE];
+    let builds: [Make; 4] = [make, plain::make, hashed::make, quick::make];
+    let nanoseconds = medians(|k| {
+        before(&mut positions);
+        time(|| {
+            let answer = builds[k](black_box(&marks), black_box(&corrections), black_box(&positions), black_box(&mut out));
+            assert!(answer.is_ok());
+        })
+    });
+    nanoseconds.map(|time| time / 1_000.0)
+}
+
+fn print_make_row(label: &str, [proved, plain, hashed, quick]: [f64; 4]) {
+    let [to_plain, to_hashed, to_quick] = [plain, hashed, quick].map(|other| proved / other);
+    print!("{label:>21} {proved:>9.1} {plain:>9.1} {to_plain:>9.3} {hashed:>9.1} {to_hashed:>9.2}");
+    println!(" {quick:>9.1} {to_quick:>9.2}");
+}
+
+fn print_make() {
+    println!(
+        "make: {MAX_MARKS} marks, {MAX_CORRECTIONS} corrections, N positions; microseconds for a file, and ratios of times"
+    );
+    let heads = ["proved", "plain", "ratio", "hashed", "ratio", "quick", "ratio"].map(|head| format!("{head:>9}"));
+    println!("{:>21} {}", "N", heads.join(" "));
+    let mut random = Random::new(521_288_629);
+    for positions in [256, 512, 1_024, 2_048, 4_096] {
+        let day = with_distinct_numbers(day_of(&mut random, MAX_MARKS, MAX_CORRECTIONS, positions));
+        print_make_row(&positions.to_string(), make_times(&day, |_| {}));
+    }
+    let full = day_of(&mut random, MAX_MARKS, MAX_CORRECTIONS, MAX_POSITIONS);
+    print_make_row("some resent", make_times(&full, |_| {}));
+    print_make_row("new accounts", make_times(&full, |positions| renew_accounts(&mut random, positions)));
+    println!();
 }
 
 /// The times of a call's two builds, over the prices of a product, in nanoseconds: proved, plain.
@@ -327,11 +374,12 @@ fn main() {
     println!(
         "Each time is the median of {RUNS} runs in one process, in a release build (opt-level 3); the builds take turns."
     );
-    println!("The amounts slice has {MAX_POSITIONS} places and is not cleared between runs; Rust's builds allocate their tables in each run.");
+    println!("The amounts slice has {MAX_POSITIONS} places, a made file {FILE_SIZE} bytes; neither is cleared between runs. Rust's builds allocate their tables in each run.");
     println!(
         "Numbers of corrections are distinct, so that pair loops look at every pair, except where the row says other.\n"
     );
     print_settle();
+    print_make();
     print_sheets();
     print_values();
 }

@@ -1,7 +1,8 @@
 //! The same job with hash tables in place of pair loops, so that no part of it is quadratic.
 
 use crate::plain;
-use citronreef::records::{Correction, Mark, Position};
+use crate::products::Product;
+use citronreef::records::{Correction, Day, Mark, Position};
 use citronreef::{Refusal, Settled};
 use std::collections::hash_map::Entry;
 use std::collections::{HashMap, HashSet};
@@ -62,15 +63,28 @@ fn check_numbers(corrections: &[Correction]) -> Result<usize, Refusal> {
     Ok(resent)
 }
 
-/// Settles a day file.
-pub fn settle(file: &[u8], amounts: &mut [i64]) -> Result<Settled, Refusal> {
-    let day = plain::read(file)?;
+/// Checks 4 to 13 and 16, each mark's product, and the resent count.
+fn check_day(day: &Day) -> Result<(Vec<&'static Product>, usize), Refusal> {
     let products = plain::check_marks(&day.marks)?;
     check_keys(8, &day.marks, contract)?;
     plain::check_corrections(&day.corrections, &products)?;
     let resent = check_numbers(&day.corrections)?;
     plain::check_positions(&day.positions, day.marks.len())?;
     check_keys(16, &day.positions, holding)?;
+    Ok((products, resent))
+}
+
+/// Settles a day file.
+pub fn settle(file: &[u8], amounts: &mut [i64]) -> Result<Settled, Refusal> {
+    let day = plain::read(file)?;
+    let (products, resent) = check_day(&day)?;
     plain::check_places(day.positions.len(), amounts.len())?;
     Ok(plain::pay(&day, &products, resent, amounts))
+}
+
+/// Makes a day file of three lists.
+pub fn make(marks: &[u8], corrections: &[u8], positions: &[u8], out: &mut [u8]) -> Result<usize, Refusal> {
+    let lists = [marks, corrections, positions];
+    check_day(&plain::listed(lists)?)?;
+    plain::write_file(lists, out)
 }

@@ -1,9 +1,17 @@
-//! The settlement of a day file in plain Rust, written from document 01: checks over the records one after the other, and a
-//! clash looked for among all earlier records.
+//! The settlement of a day file, and the making of one, in plain Rust, written from document 01: checks over the records one after
+//! the other, and a clash looked for among all earlier records.
 
 use crate::products::{product, Currency, Product, PRICE_LIMIT, YEAR_LIMIT};
 use citronreef::records::*;
 use citronreef::{Refusal, Settled};
+
+/// Check 2.
+fn check_counts([marks, corrections, positions]: [usize; 3]) -> Result<(), Refusal> {
+    match marks > MAX_MARKS || corrections > MAX_CORRECTIONS || positions > MAX_POSITIONS {
+        true => Err(Refusal::of(2)),
+        false => Ok(()),
+    }
+}
 
 /// Checks 1, 2 and 3, and the records of a file that passes them.
 pub fn read(file: &[u8]) -> Result<Day, Refusal> {
@@ -12,9 +20,7 @@ pub fn read(file: &[u8]) -> Result<Day, Refusal> {
     }
     let numbers: [usize; 6] = std::array::from_fn(|i| u32_at(file, 4 * i) as usize);
     let [marks, _, corrections, _, positions, positions_start] = numbers;
-    if marks > MAX_MARKS || corrections > MAX_CORRECTIONS || positions > MAX_POSITIONS {
-        return Err(Refusal::of(2));
-    }
+    check_counts([marks, corrections, positions])?;
     if numbers != header(marks, corrections, positions) || file.len() != positions_start + RECORD_SIZE * positions {
         return Err(Refusal::of(3));
     }
@@ -23,6 +29,24 @@ pub fn read(file: &[u8]) -> Result<Day, Refusal> {
         marks: records.by_ref().take(marks).map(Mark::read).collect(),
         corrections: records.by_ref().take(corrections).map(Correction::read).collect(),
         positions: records.map(Position::read).collect(),
+    })
+}
+
+fn records<T>(list: &[u8], read: fn(&[u8]) -> T) -> Vec<T> {
+    list.chunks_exact(RECORD_SIZE).map(read).collect()
+}
+
+/// Checks 2 and 3 of lent lists, and their records.
+pub fn listed(lists: [&[u8]; 3]) -> Result<Day, Refusal> {
+    check_counts(lists.map(|list| list.len() / RECORD_SIZE))?;
+    if lists.iter().any(|list| list.len() % RECORD_SIZE != 0) {
+        return Err(Refusal::of(3));
+    }
+    let [marks, corrections, positions] = lists;
+    Ok(Day {
+        marks: records(marks, Mark::read),
+        corrections: records(corrections, Correction::read),
+        positions: records(positions, Position::read),
     })
 }
 
@@ -74,6 +98,17 @@ pub fn check_positions(positions: &[Position], marks: usize) -> Result<(), Refus
 /// Whether two positions are of one account and one mark. Their lots may differ.
 pub fn same_holding(position: &Position, other: &Position) -> bool {
     position.account == other.account && position.mark == other.mark
+}
+
+/// Checks 4 to 13 and 16, and each mark's product.
+fn check_day(day: &Day) -> Result<Vec<&'static Product>, Refusal> {
+    let products = check_marks(&day.marks)?;
+    check_pairs(8, &day.marks, same_contract)?;
+    check_corrections(&day.corrections, &products)?;
+    check_pairs(11, &day.corrections, |c, other| c.number == other.number && c != other)?;
+    check_positions(&day.positions, day.marks.len())?;
+    check_pairs(16, &day.positions, same_holding)?;
+    Ok(products)
 }
 
 /// Check 14.
@@ -138,12 +173,30 @@ pub fn pay(day: &Day, products: &[&Product], resent: usize, amounts: &mut [i64])
 /// Settles a day file.
 pub fn settle(file: &[u8], amounts: &mut [i64]) -> Result<Settled, Refusal> {
     let day = read(file)?;
-    let products = check_marks(&day.marks)?;
-    check_pairs(8, &day.marks, same_contract)?;
-    check_corrections(&day.corrections, &products)?;
-    check_pairs(11, &day.corrections, |c, other| c.number == other.number && c != other)?;
-    check_positions(&day.positions, day.marks.len())?;
-    check_pairs(16, &day.positions, same_holding)?;
+    let products = check_day(&day)?;
     check_places(day.positions.len(), amounts.len())?;
     Ok(pay(&day, &products, resent_count(&day.corrections), amounts))
+}
+
+/// Check 17, and the file of three lists of whole records at the start of `out`. Answers the file's length.
+pub fn write_file(lists: [&[u8]; 3], out: &mut [u8]) -> Result<usize, Refusal> {
+    let [marks, corrections, positions] = lists.map(|list| list.len() / RECORD_SIZE);
+    let numbers = header(marks, corrections, positions);
+    let length = numbers[5] + RECORD_SIZE * positions;
+    let file = out.get_mut(..length).ok_or(Refusal::of(17))?;
+    for (number, place) in numbers.iter().zip(file.chunks_exact_mut(4)) {
+        place.copy_from_slice(&(*number as u32).to_le_bytes());
+    }
+    let starts = [numbers[1], numbers[3], numbers[5]];
+    for (list, start) in lists.iter().zip(starts) {
+        file[start..start + list.len()].copy_from_slice(list);
+    }
+    Ok(length)
+}
+
+/// Makes a day file of three lists.
+pub fn make(marks: &[u8], corrections: &[u8], positions: &[u8], out: &mut [u8]) -> Result<usize, Refusal> {
+    let lists = [marks, corrections, positions];
+    check_day(&listed(lists)?)?;
+    write_file(lists, out)
 }

@@ -1,4 +1,7 @@
-/* Settles the case of document 01 through include/citronreef.h, and prints its numbers and its sheet. */
+/*
+ * Settles the case of document 01 through include/citronreef.h, and prints its numbers and its sheet. The sheet is of the file that
+ * its lists make.
+ */
 #include "citronreef.h"
 #include <inttypes.h>
 #include <stdio.h>
@@ -36,8 +39,10 @@ static void print_found(citronreef_found f)
 
 _Static_assert(CITRONREEF_SHEET_SIZE == 47 * CITRONREEF_MAX_POSITIONS + 90, "room for the longest sheet");
 _Static_assert(CITRONREEF_PRICE_LIMIT == 100 * CITRONREEF_UNITS_PER_POINT, "no price is above 100.0000");
+_Static_assert(CITRONREEF_FILE_SIZE == 24 + 12 * (CITRONREEF_MAX_MARKS + CITRONREEF_MAX_CORRECTIONS + CITRONREEF_MAX_POSITIONS),
+               "room for the longest file");
 
-static uint8_t out[CITRONREEF_SHEET_SIZE];
+static uint8_t out[CITRONREEF_SHEET_SIZE], again[CITRONREEF_FILE_SIZE];
 
 int main(void)
 {
@@ -54,6 +59,7 @@ int main(void)
     print_found(citronreef_find(file, sizeof file, 3));
     print_found(citronreef_find(file, sizeof file - 1, 3));
     printf("%zu\n", citronreef_sheet(file, sizeof file, amounts, 3, out, sizeof out - 1));
-    fwrite(out, 1, citronreef_sheet(file, sizeof file, amounts, 3, out, sizeof out), stdout);
-    return 0;
+    citronreef_made made = citronreef_make(file + 24, 12, file + 36, 24, file + 60, 24, again, sizeof again);
+    fwrite(out, 1, citronreef_sheet(again, made.length, amounts, 3, out, sizeof out), stdout);
+    return made.refused != 0 || made.index != 0;
 }

@@ -1,4 +1,4 @@
-//! From a text to the bytes of a file.
+//! From a text to the parts of a file.
 
 use super::draft::{Draft, Header, Naming, NAMING_FIELD};
 use super::names::Names;
@@ -11,19 +11,25 @@ use citronreef::records::{header, Correction, Mark, Position};
 /// the records that name it.
 pub fn made(text: &[u8]) -> Result<Made, Mistake> {
     let draft = Draft::of(text)?;
-    let mut bytes = header_bytes(&draft)?;
-    bytes.extend(draft.marks.iter().flat_map(Mark::bytes));
+    let header = header_bytes(&draft)?;
+    let lists = list_bytes(&draft)?;
+    Ok(Made { header, lists, rest: draft.rest, lines: draft.lines })
+}
+
+/// The bytes of the three lists.
+fn list_bytes(draft: &Draft) -> Result<[Vec<u8>; 3], Mistake> {
+    let marks = draft.marks.iter().flat_map(Mark::bytes).collect();
+    let (mut corrections, mut positions) = (Vec::new(), Vec::new());
     let names = Names::of(&draft.marks);
     for (naming, &line) in draft.corrections.iter().zip(&draft.lines.corrections) {
-        let mark = index_of(naming, line, &names, &draft)?;
-        bytes.extend(Correction { mark, ..naming.record }.bytes());
+        let mark = index_of(naming, line, &names, draft)?;
+        corrections.extend(Correction { mark, ..naming.record }.bytes());
     }
     for (naming, &line) in draft.positions.iter().zip(&draft.lines.positions) {
-        let mark = index_of(naming, line, &names, &draft)?;
-        bytes.extend(Position { mark, ..naming.record }.bytes());
+        let mark = index_of(naming, line, &names, draft)?;
+        positions.extend(Position { mark, ..naming.record }.bytes());
     }
-    bytes.extend(&draft.rest);
-    Ok(Made { bytes, lines: draft.lines })
+    Ok([marks, corrections, positions])
 }
 
 /// The index of the mark that a record of this line names.

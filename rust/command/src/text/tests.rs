@@ -12,7 +12,7 @@ use citronreef::records::{Correction, Day, Mark, Position};
 
 /// The bytes of a text that can be made.
 fn bytes_of(text: &str) -> Vec<u8> {
-    made(text.as_bytes()).unwrap_or_else(|mistake| panic!("{mistake}, in {text}")).bytes
+    made(text.as_bytes()).unwrap_or_else(|mistake| panic!("{mistake}, in {text}")).bytes()
 }
 
 /// What is said of a text that cannot be made.
