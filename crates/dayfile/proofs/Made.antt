@@ -12,7 +12,7 @@ use Rattle.dayfile.specs.Records.{markSize, correctionSize, positionSize
 use Rattle.dayfile.specs.Limits.{Limits, fileLimits}
 use Rattle.dayfile.specs.Layout.{headerSize, countsOf, correctionsStart, positionsStart, lengthOf, markBytes, correctionBytes, positionBytes, listsOfFile}
 use Rattle.dayfile.specs.Opening.{openedOf}
-use Rattle.dayfile.specs.WithinLimits.{CountsWithinLimits, WholeRecords}
+use Rattle.dayfile.specs.WithinLimits.{WholeRecords}
 use Rattle.dayfile.specs.Making.{countsIn, entryBytes, headerOf, madeOf}
 use Rattle.dayfile.specs.declared.file.DayFile.{DayFile}
 use Rattle.dayfile.specs.declared.file.Opened.the-variants.{File}

@@ -7,7 +7,7 @@ use Rattle.dayfile.specs.Records.{marksIn, correctionsIn, positionsIn}
 use Rattle.dayfile.specs.Layout.{headerSize, correctionsStart, positionsStart}
 use Rattle.dayfile.specs.declared.file.DayFile.{DayFile}
 
--- the counts of three lists of whole records
+-- the counts of three lists: how many whole records each has
 unfoldable pub countsIn : List ℕ → List ℕ → List ℕ → DayFile
 countsIn ms cs ps = record { marks = length (marksIn ms); corrections = length (correctionsIn cs); positions = length (positionsIn ps) }
 

@@ -1,7 +1,6 @@
 -- Files made by the definitions, from literal bytes: the case of document 01, no records at all, and lists that are refused.
 use mathlib.Core.Path.{_≡_, refl}
-use mathlib.Core.List.{List, [], _∷_, _++_}
-use Prim.Native.Nat.{ℕ}
+use mathlib.Core.List.{[], _∷_, _++_}
 use lib.ListN.{replicate}
 use Rattle.numbers.specs.Bytes.{u32At, signed, recordsOf, u32Bytes}
 use Rattle.numbers.specs.Folds.{first, some}
@@ -23,6 +22,12 @@ unfolding marks corrections positions caseFile priceLimit products sameCode find
     listed codeHasMonth tickOf decisionOf countsIn entryBytes headerOf madeOf answerOf bufferAfter
 case-made = (refl, refl, refl, refl)
 
+-- the header of 20 marks, no corrections and 300 positions: an offset of 264 and a count of 300 take two bytes
+pub header-made : headerOf (record { marks = 20; corrections = 0; positions = 300 })
+    ≡ 20 ∷ 0 ∷ 0 ∷ 0 ∷ 24 ∷ 0 ∷ 0 ∷ 0 ∷ 0 ∷ 0 ∷ 0 ∷ 0 ∷ 8 ∷ 1 ∷ 0 ∷ 0 ∷ 44 ∷ 1 ∷ 0 ∷ 0 ∷ 8 ∷ 1 ∷ 0 ∷ 0 ∷ []
+unfolding u32Bytes entryBytes headerOf
+header-made = refl
+
 -- no records: a header alone
 pub empty-made : (answerOf fileLimits [] [] [] 24 ≡ made 24)
     × (bufferAfter fileLimits [] [] [] (replicate 25 9)
@@ -31,12 +36,12 @@ unfolding u32At recordsOf u32Bytes first decisionOf countsIn entryBytes headerOf
 empty-made = (refl, refl)
 
 -- In turn: 257 marks and a byte, 256 marks and a byte, 513 corrections, 4,097 positions; a mark of zeros with a byte more, and without it; a
--- third position with a byte alone, and one of zeros, whose lots are 0, with no room at all.
+-- byte more of corrections, and of positions; and a third position of zeros, whose lots are 0, with no room at all.
 pub refusals-in-order : (answerOf fileLimits (replicate 3085 0) [] [] 0 ≡ refused 2 0) × (answerOf fileLimits (replicate 3073 0) [] [] 0 ≡ refused 3 0)
     × (answerOf fileLimits [] (replicate 6156 0) [] 0 ≡ refused 2 0) × (answerOf fileLimits [] [] (replicate 49164 0) 0 ≡ refused 2 0)
     × (answerOf fileLimits (replicate 13 0) [] [] 0 ≡ refused 3 0) × (answerOf fileLimits (replicate 12 0) [] [] 0 ≡ refused 4 0)
-    × (answerOf fileLimits marks corrections (positions ++ replicate 1 0) 0 ≡ refused 3 0)
+    × (answerOf fileLimits marks (corrections ++ replicate 1 0) positions 0 ≡ refused 3 0) × (answerOf fileLimits marks corrections (positions ++ replicate 1 0) 0 ≡ refused 3 0)
     × (answerOf fileLimits marks corrections (positions ++ replicate 12 0) 0 ≡ refused 13 2)
 unfolding marks corrections positions priceLimit products sameCode findIn find hasMonth u32At signed recordsOf u32Bytes first some markAt correctionAt positionAt
     listed codeHasMonth tickOf decisionOf countsIn entryBytes headerOf madeOf answerOf
-refusals-in-order = (refl, refl, refl, refl, refl, refl, refl, refl)
+refusals-in-order = (refl, refl, refl, refl, refl, refl, refl, refl, refl)

@@ -2,12 +2,12 @@
 use mathlib.Core.Path.{_≡_, refl, sym, ap, _∙_}
 use mathlib.Core.Bool.{Bool, true, false, cond, not, _||_}
 use mathlib.Core.List.{List}
-use Prim.Native.Nat.{ℕ, _*_, _/_, _%_, _≤_}
+use Prim.Native.Nat.{ℕ, _%_, _≤_}
 use native.Mathlib.Omega.{arith}
 use lib.Dec.{ltb, eqb}
 use lib.ListN.{length}
 use borrow.Author.Tests.{eqb-true, eq-eqb, ltb-false, le-ltb, not-false}
-use Rattle.numbers.specs.Order.{pick}
+use Rattle.numbers.specs.Order.{pick, orLater}
 use Rattle.numbers.specs.Checks.{Checks, only, _before_, decisionOf}
 use Rattle.numbers.specs.declared.Found.the-variants.{At, Nothing}
 use Rattle.numbers.specs.declared.deciding.Decision.{Decision}
@@ -32,6 +32,9 @@ use Rattle.making.specs.MakingSteps.{roomPlan, planBy, planOf}
 use Rattle.making.specs.declared.maker.Made.the-variants as maker
 use Rattle.making.specs.declared.plans.Plan.{Plan}
 use Rattle.making.specs.declared.plans.Plan.the-variants.{File, Refused}
+
+pub number-of : {k n i j : ℕ} → Met k i ≡ Met n j → k ≡ n
+number-of e = cc
 
 -- ---- whole records
 
@@ -75,15 +78,20 @@ module _ (l : Limits) (ms cs ps : List ℕ) (room : ℕ) where
   abbrev afterCounts : Checks
   afterCounts = only (brokenList ms cs ps) before afterRecords
 
+  pub two-refuses : tooManyRecords l (listsOf ms cs ps) .test 0 ≡ true → Met 2 0 ≡ decisionOf (makingChecks ms cs ps l room)
+  two-refuses p = one-decides (tooManyRecords l (listsOf ms cs ps)) afterCounts p
+
   pub planned-2 : tooManyRecords l (listsOf ms cs ps) .test 0 ≡ true → Refused 2 0 ≡ planOf l ms cs ps room
   unfolding planOf
-  planned-2 p = ap (planBy (countsIn ms cs ps)) (one-decides (tooManyRecords l (listsOf ms cs ps)) afterCounts p)
+  planned-2 p = ap (planBy (countsIn ms cs ps)) (two-refuses p)
 
   module _ (few : tooManyRecords l (listsOf ms cs ps) .test 0 ≡ false) where
+    pub three-refuses : brokenList ms cs ps .test 0 ≡ true → Met 3 0 ≡ decisionOf (makingChecks ms cs ps l room)
+    three-refuses q = one-passes (tooManyRecords l (listsOf ms cs ps)) afterCounts few (one-decides (brokenList ms cs ps) afterRecords q)
+
     pub planned-3 : brokenList ms cs ps .test 0 ≡ true → Refused 3 0 ≡ planOf l ms cs ps room
     unfolding planOf
-    planned-3 q =
-        ap (planBy (countsIn ms cs ps)) (one-passes (tooManyRecords l (listsOf ms cs ps)) afterCounts few (one-decides (brokenList ms cs ps) afterRecords q))
+    planned-3 q = ap (planBy (countsIn ms cs ps)) (three-refuses q)
 
     module _ (whole : brokenList ms cs ps .test 0 ≡ false) where
       decided-after : decisionOf afterRecords ≡ decisionOf (makingChecks ms cs ps l room)
@@ -95,6 +103,13 @@ module _ (l : Limits) (ms cs ps : List ℕ) (room : ℕ) where
           let r : decisionOf (recordChecks (listsOf ms cs ps)) ≡ Met k i = sym (records-within l (listsOf ms cs ps) few) ∙ sym p ∙ q in
           let first : decisionOf afterRecords ≡ Met k i = decision-before (recordChecks (listsOf ms cs ps)) (only (roomCheck ms cs ps room)) ∙ rw r in
           ap (planBy (countsIn ms cs ps)) (sym first ∙ decided-after)
+
+      -- with room, the records decide
+      pub left-to-records : length (madeOf ms cs ps) ≤ room
+          → decisionOf (makingChecks ms cs ps l room) ≡ orLater (decisionOf (recordChecks (listsOf ms cs ps))) Unmet
+      left-to-records fits =
+          sym decided-after ∙ decision-before (recordChecks (listsOf ms cs ps)) (only (roomCheck ms cs ps room))
+          ∙ rw (decision-only (roomCheck ms cs ps room), le-ltb _ _ fits)
 
       -- 17 is all that is left
       pub decided-room : decisionOf (recordChecks (listsOf ms cs ps)) ≡ Unmet

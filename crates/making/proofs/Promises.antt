@@ -1,27 +1,27 @@
 -- What the maker promises. `answerOf l ms cs ps room` is its answer to three lists, lent as the bytes of their records, for a buffer of so
 -- many bytes, and `bufferAfter l ms cs ps out` the buffer afterwards that was out before: the contract of `make` says that its answer and its
 -- buffer are these, for the limits `fileLimits`.
-use mathlib.Core.Path.{_≡_, refl, sym, ap, _∙_}
+use mathlib.Core.Path.{_≡_, refl, sym, _∙_}
 use mathlib.Core.List.{List, [], _∷_, _++_, map}
-use mathlib.Core.Logic.{_↔_}
-use Prim.Native.Nat.{ℕ, _/_, _≤_}
+use mathlib.Core.Logic.{_↔_, _≢_}
+use Prim.Native.Nat.{ℕ, _+_, _/_, _≤_}
 use lib.ListN.{length, take, drop}
 use Rattle.numbers.specs.Bytes.{Bytes}
 use Rattle.numbers.specs.Checks.{numberOf}
 use Rattle.dayfile.specs.Limits.{Limits, fileLimits}
 use Rattle.dayfile.specs.Records.{markSize, correctionSize, positionSize, markOf, correctionOf, positionOf, listsOf}
-use Rattle.dayfile.specs.Layout.{countsOf, markBytes, correctionBytes, positionBytes}
-use Rattle.dayfile.specs.Making.{countsIn, madeOf}
+use Rattle.dayfile.specs.Layout.{headerSize, countsOf, markBytes, correctionBytes, positionBytes}
+use Rattle.dayfile.specs.Making.{madeOf}
 use Rattle.dayfile.specs.declared.file.DayFile.{DayFile}
+use Rattle.dayfile.proofs.Made.{made-is-bytes}
 use Rattle.numbers.proofs.Sections.{size-is}
 use Rattle.checks.specs.Corrections.{resentOf}
 use Rattle.checks.specs.Judging.{judgedOf}
 use Rattle.checks.specs.declared.judging.Judged.the-variants.{Passed}
 use Rattle.making.specs.Conditions.{makingChecks, NotMade, CanBeMade}
-use Rattle.making.specs.Making.{Answer, made, refused, answerOf, bufferAfter}
+use Rattle.making.specs.Making.{DayFileOf, Answer, made, refused, answerOf, bufferAfter}
 use Rattle.checks.proofs.Refusals.{judged-passes}
 use Rattle.making.proofs.RoundTrip as trip
-use Rattle.making.proofs.RoundTrip.{DayFileOf}
 
 -- ---- the answer
 
@@ -69,6 +69,16 @@ module _ (ms cs ps out : List ℕ) {n : ℕ} (e : answerOf fileLimits ms cs ps (
   pub made-file : DayFileOf file ms cs ps
   made-file = rw (trip.file-stands fileLimits ms cs ps out e) (trip.made-laid-out ms cs ps (trip.fits ms cs ps out e .whole))
 
+  -- Its length is the answer.
+  pub made-length : n ≡ headerSize + length ms + length cs + length ps
+  made-length =
+      let (u, long) = trip.made-decided fileLimits ms cs ps (length out) e in
+      sym long ∙ trip.made-laid-out ms cs ps (trip.fits ms cs ps out e .whole) .file-length
+
+  -- It is a file of bytes where the lists are: so its header's bytes are those of the six numbers, and no others.
+  pub made-bytes : Bytes ms → Bytes cs → Bytes ps → Bytes file
+  made-bytes m c p = rw (trip.file-stands fileLimits ms cs ps out e) (made-is-bytes ms cs ps m c p)
+
   -- Reading it returns the three lists, byte for byte,
   pub reading-made : (markBytes file (countsOf file) ≡ ms) × (correctionBytes file (countsOf file) ≡ cs) × (positionBytes file (countsOf file) ≡ ps)
   reading-made = let r = trip.reads ms cs ps out e in (r .marks, r .corrections, r .positions)
@@ -78,10 +88,21 @@ module _ (ms cs ps out : List ℕ) {n : ℕ} (e : answerOf fileLimits ms cs ps (
   unfolding judgedOf
   made-passes = let r = trip.reads ms cs ps out e in rw (r .passed, r .corrections)
 
+-- ---- the longest file
+
+-- No file that is made has more than 58,392 bytes,
+pub made-within : (ms cs ps out : List ℕ) {n : ℕ} → answerOf fileLimits ms cs ps (length out) ≡ made n → n ≤ 58392
+made-within ms cs ps out e =
+    rw (← trip.made-decided fileLimits ms cs ps (length out) e .1) (trip.longest ms cs ps (trip.fits ms cs ps out e .whole))
+
+-- and a buffer of as many is never too short.
+pub room-enough : (ms cs ps : List ℕ) (room : ℕ) → 58392 ≤ room → {i : ℕ} → answerOf fileLimits ms cs ps room ≢ refused 17 i
+room-enough ms cs ps room enough = trip.room-enough ms cs ps room enough
+
 -- ---- a file made again
 
--- Making a file from the lists of one that passes checks 1 to 13 and 16, into any buffer at least as long, returns its length and its bytes; the
--- other bytes stay.
+-- Making a file from the lists of a file of bytes that passes checks 1 to 13 and 16, into any buffer at least as long, returns its length and
+-- its bytes; the other bytes stay.
 pub making-again : (f out : List ℕ) {c : DayFile} {resent : ℕ} → Bytes f → judgedOf fileLimits f ≡ Passed c resent → length f ≤ length out
     → let d = countsOf f in
     (answerOf fileLimits (markBytes f d) (correctionBytes f d) (positionBytes f d) (length out) ≡ made (length f))

@@ -1,38 +1,37 @@
 -- From the maker's answer to the file, and from a file to the maker's answer.
 use mathlib.Core.Path.{_≡_, refl, sym, ap, _∙_}
-use mathlib.Core.Bool.{not, _||_}
-use mathlib.Core.List.{List, _++_}
-use mathlib.Core.Logic.{_↔_}
-use Prim.Native.Nat.{ℕ, _+_, _*_, _/_, _%_, _≤_}
+use mathlib.Core.Bool.{Bool, true, false, not, _||_}
+use mathlib.Core.List.{List}
+use mathlib.Core.Logic.{_↔_, _≢_}
+use Prim.Native.Nat.{ℕ, _+_, _/_, _%_, _≤_}
 use native.Mathlib.Omega.{arith}
 use lib.Dec.{eqb}
 use lib.ListN.{length, take, drop, length-append, length-drop}
 use lib.Seq.{take-at, drop-at}
-use Rattle.numbers.specs.Bytes.{Bytes, u32At, part}
+use Rattle.numbers.specs.Bytes.{Bytes}
+use Rattle.numbers.specs.Order.{orLater}
 use Rattle.numbers.specs.Checks.{only, _before_, decisionOf}
 use Rattle.numbers.specs.declared.deciding.Decision.{Decision}
 use Rattle.numbers.specs.declared.deciding.Decision.the-variants.{Met, Unmet}
 use Rattle.numbers.proofs.Truth.{Tells, tells-as, tells-or, tells-not, tells-lt, tells-divides, or-three, or-three-back}
-use Rattle.numbers.proofs.Checks.{Agree, agree-only, agree-before, refuses-exactly, passes-exactly}
+use Rattle.numbers.proofs.Checks.{Agree, agree-only, agree-before, refuses-exactly, passes-exactly, number-within}
 use Rattle.numbers.proofs.Sections.{size-is}
 use Rattle.dayfile.specs.Limits.{Limits, fileLimits}
 use Rattle.dayfile.specs.Records.{markSize, correctionSize, positionSize, markOf, correctionOf, positionOf, listsOf}
-use Rattle.dayfile.specs.Layout.{headerSize, countsOf, correctionsStart, positionsStart, lengthOf, markBytes, correctionBytes, positionBytes, listsOfFile}
+use Rattle.dayfile.specs.Layout.{headerSize, countsOf, markBytes, correctionBytes, positionBytes}
 use Rattle.dayfile.specs.Opening.{openedOf}
 use Rattle.dayfile.specs.Making.{countsIn, madeOf}
 use Rattle.dayfile.specs.WithinLimits.{WholeRecords}
 use Rattle.dayfile.specs.declared.file.DayFile.{DayFile}
 use Rattle.dayfile.specs.declared.file.Opened.the-variants as opened
-use Rattle.dayfile.proofs.Made.{counts-by, made-counts, made-length, made-marks, made-corrections, made-positions, made-marks-at, made-corrections-at, made-positions-at, made-opens, made-again, sections-whole}
-use Rattle.dayfile.proofs.Opening.{laid-out}
-use Rattle.dayfile.proofs.Parts.{lists-are}
+use Rattle.dayfile.proofs.Made.{made-counts, made-length, made-marks, made-corrections, made-positions, made-marks-at, made-corrections-at, made-positions-at, made-opens, made-again, sections-whole}
 use Rattle.checks.specs.Judging.{recordChecks, fileChecks, tooManyRecords}
 use Rattle.checks.proofs.Agreement.{records-agree, many-records}
-use Rattle.checks.proofs.Passed.{passed-parts, parts-passed}
+use Rattle.checks.proofs.Passed.{few-records, passed-parts, parts-passed}
 use Rattle.text.specs.Writing.{over}
 use Rattle.making.specs.Conditions.{brokenList, roomCheck, makingChecks, NotMade, CanBeMade}
-use Rattle.making.specs.Making.{Answer, made, refused, answerBy, bufferBy, answerOf, bufferAfter}
-use Rattle.making.proofs.Planned.{Fitting, fitting, none-refuses, fits-decided}
+use Rattle.making.specs.Making.{DayFileOf, made, refused, answerBy, answerOf, bufferAfter}
+use Rattle.making.proofs.Planned.{Fitting, fitting, none-refuses, fits-decided, whole-lists, number-of, two-refuses, three-refuses, left-to-records}
 
 -- ---- the checks in words
 
@@ -121,39 +120,20 @@ module _ (l : Limits) (ms cs ps out : List ℕ) {n : ℕ} (e : answerOf l ms cs 
 
 -- ---- a made file
 
--- the counts are the lists' lengths over the record's, rounded down
-pub counts-are : (ms cs ps : List ℕ)
-    → countsIn ms cs ps ≡ record { marks = length ms / markSize; corrections = length cs / correctionSize; positions = length ps / positionSize }
-unfolding countsIn
-counts-are ms cs ps = counts-by _ (size-is markOf markSize ms) (size-is correctionOf correctionSize cs) (size-is positionOf positionSize ps)
-
--- a file with its three lists, by its bytes alone: the counts and offsets of its header, each list from its own offset on, and its end
-pub record DayFileOf (f ms cs ps : List ℕ) : Type 0 where
-  pub mark-count : u32At f 0 ≡ length ms / markSize
-  pub marks-offset : u32At f 4 ≡ headerSize
-  pub correction-count : u32At f 8 ≡ length cs / correctionSize
-  pub corrections-offset : u32At f 12 ≡ headerSize + length ms
-  pub position-count : u32At f 16 ≡ length ps / positionSize
-  pub positions-offset : u32At f 20 ≡ headerSize + length ms + length cs
-  pub marks : part (u32At f 4) (length ms) f ≡ ms
-  pub corrections : part (u32At f 12) (length cs) f ≡ cs
-  pub positions : part (u32At f 20) (length ps) f ≡ ps
-  pub file-length : length f ≡ headerSize + length ms + length cs + length ps
-
 pub made-laid-out : (ms cs ps : List ℕ) → WholeRecords ms cs ps (countsIn ms cs ps) → DayFileOf (madeOf ms cs ps) ms cs ps
-unfolding countsOf
+unfolding countsOf countsIn
 made-laid-out ms cs ps w =
     let d = countsIn ms cs ps in
-    let c = made-counts ms cs ps d w ∙ counts-are ms cs ps in
+    let c = made-counts ms cs ps d w in
     let marks-at = made-marks-at ms cs ps d w in
     let corrections-at = made-corrections-at ms cs ps d w in
     let positions-at = made-positions-at ms cs ps d w in
     record {
-      mark-count = ap (λ (d : DayFile). d .marks) c;
+      mark-count = ap (λ (d : DayFile). d .marks) c ∙ size-is markOf markSize ms;
       marks-offset = marks-at;
-      correction-count = ap (λ (d : DayFile). d .corrections) c;
+      correction-count = ap (λ (d : DayFile). d .corrections) c ∙ size-is correctionOf correctionSize cs;
       corrections-offset = omega (arith, corrections-at, w .marks);
-      position-count = ap (λ (d : DayFile). d .positions) c;
+      position-count = ap (λ (d : DayFile). d .positions) c ∙ size-is positionOf positionSize ps;
       positions-offset = omega (arith, positions-at, w .marks, w .corrections);
       marks = rw (marks-at, w .marks) (made-marks ms cs ps d w);
       corrections = rw (corrections-at, w .corrections) (made-corrections ms cs ps d w);
@@ -163,7 +143,6 @@ made-laid-out ms cs ps w =
 
 -- a file that passes checks 1 to 13 and 16, and whose sections are these lists
 pub record Reads (f ms cs ps : List ℕ) : Type 0 where
-  pub opened : openedOf fileLimits f ≡ opened.File (countsOf f)
   pub marks : markBytes f (countsOf f) ≡ ms
   pub corrections : correctionBytes f (countsOf f) ≡ cs
   pub positions : positionBytes f (countsOf f) ≡ ps
@@ -181,7 +160,6 @@ made-reads ms cs ps f =
     let k = ap (correctionBytes (madeOf ms cs ps)) c ∙ made-corrections ms cs ps d w in
     let p = ap (positionBytes (madeOf ms cs ps)) c ∙ made-positions ms cs ps d w in
     record {
-      opened = opens;
       marks = m;
       corrections = k;
       positions = p;
@@ -213,3 +191,36 @@ makes-again f out b p room =
     let fits : Fitting (markBytes f (countsOf f)) (correctionBytes f (countsOf f)) (positionBytes f (countsOf f)) (countsOf f) (length out) =
     record { whole = sections-whole f o; passed = passed; fits = rw again room } in
     rw again at (makes (markBytes f (countsOf f)) (correctionBytes f (countsOf f)) (positionBytes f (countsOf f)) out fits)
+
+-- ---- the longest file
+
+-- 24 + 12 times (256 + 512 + 4,096) bytes
+pub longest : (ms cs ps : List ℕ) → WholeRecords ms cs ps (countsIn ms cs ps) → length (madeOf ms cs ps) ≤ 58392
+longest ms cs ps w =
+    let few = w .counts-within in
+    omega (arith, made-length ms cs ps (countsIn ms cs ps) w, few .marks, few .corrections, few .positions)
+
+-- so that a buffer of as many bytes is never too short
+module _ (ms cs ps : List ℕ) (room : ℕ) (enough : 58392 ≤ room) where
+  not-17 : (d : Decision) {i : ℕ} → d ≢ Met 17 i → orLater d Unmet ≢ Met 17 i
+  not-17 (Met k j) n e = n e
+  not-17 Unmet n e = n e
+
+  no-record-17 : {i : ℕ} → decisionOf (recordChecks (listsOf ms cs ps)) ≢ Met 17 i
+  no-record-17 e =
+      let ls = listsOf ms cs ps in
+      let k = number-within (recordChecks ls) 16 refl (refuses-exactly (recordChecks ls) (records-agree ls) .0 e) in
+      omega arith
+
+  by-tests : (many broken : Bool) → tooManyRecords fileLimits (listsOf ms cs ps) .test 0 ≡ many → brokenList ms cs ps .test 0 ≡ broken
+      → {i : ℕ} → decisionOf (makingChecks ms cs ps fileLimits room) ≢ Met 17 i
+  by-tests true broken p q e = absurd (let z : 2 ≡ 17 = number-of (two-refuses fileLimits ms cs ps room p ∙ e) in omega arith)
+  by-tests false true p q e = absurd (let z : 3 ≡ 17 = number-of (three-refuses fileLimits ms cs ps room p q ∙ e) in omega arith)
+  by-tests false false p q e =
+      let ls = listsOf ms cs ps in
+      let fits = longest ms cs ps (whole-lists ms cs ps (few-records ls p) q) in
+      not-17 (decisionOf (recordChecks ls)) no-record-17 (sym (left-to-records fileLimits ms cs ps room p q (omega arith)) ∙ e)
+
+  pub room-enough : {i : ℕ} → answerOf fileLimits ms cs ps room ≢ refused 17 i
+  room-enough e =
+      by-tests (tooManyRecords fileLimits (listsOf ms cs ps) .test 0) (brokenList ms cs ps .test 0) refl refl (refused-decided fileLimits ms cs ps room e)

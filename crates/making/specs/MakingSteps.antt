@@ -1,4 +1,4 @@
--- How the code goes from three lists to the file. No statement about the maker rests on this.
+-- How the code goes from three lists to the file. No contract of a function that is open to callers rests on this.
 use mathlib.Core.Bool.{cond}
 use mathlib.Core.List.{List}
 use Prim.Native.Nat.{ℕ}

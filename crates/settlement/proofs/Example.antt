@@ -9,7 +9,7 @@ use Rattle.products.specs.Products.{priceLimit, products, sameCode, findIn, fin
 use Rattle.pricing.specs.Prices.{par, yieldAt}
 use Rattle.pricing.specs.Value.{billDividend, billDivisor, valueBy}
 use Rattle.pricing.specs.Calls.{valueOf}
-use Rattle.numbers.specs.Bytes.{u32At, signed, recordsOf, u32Bytes}
+use Rattle.numbers.specs.Bytes.{u32At, signed, recordsOf}
 use Rattle.numbers.specs.Folds.{first, some}
 use Rattle.dayfile.specs.Limits.{fileLimits}
 use Rattle.dayfile.specs.Records.{markAt, correctionAt, positionAt}
