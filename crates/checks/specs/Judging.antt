@@ -1,4 +1,4 @@
--- What checks 1 to 13 and 16 say of a whole file.
+-- What the checks say of three lists of records, and checks 1 to 13 and 16 of a whole file.
 use Prim.Native.Nat.{ℕ, _<_}
 use mathlib.Core.Bool.{_||_}
 use mathlib.Core.List.{List}

@@ -3,7 +3,7 @@ use mathlib.Core.Path.{_≡_, refl, sym, ap, _∙_}
 use mathlib.Core.Bool.{Bool, true, false, not, _||_}
 use mathlib.Core.List.{List}
 use mathlib.Core.Logic.{_↔_, _≢_}
-use Prim.Native.Nat.{ℕ, _+_, _/_, _%_, _≤_}
+use Prim.Native.Nat.{ℕ, _%_, _≤_}
 use native.Mathlib.Omega.{arith}
 use lib.Dec.{eqb}
 use lib.ListN.{length, take, drop, length-append, length-drop}
@@ -13,8 +13,8 @@ use Rattle.numbers.specs.Order.{orLater}
 use Rattle.numbers.specs.Checks.{only, _before_, decisionOf}
 use Rattle.numbers.specs.declared.deciding.Decision.{Decision}
 use Rattle.numbers.specs.declared.deciding.Decision.the-variants.{Met, Unmet}
-use Rattle.numbers.proofs.Truth.{Tells, tells-as, tells-or, tells-not, tells-lt, tells-divides, or-three, or-three-back}
-use Rattle.numbers.proofs.Checks.{Agree, agree-only, agree-before, refuses-exactly, passes-exactly, number-within}
+use Rattle.numbers.proofs.Truth.{Tells, not-both, tells-as, tells-or, tells-not, tells-lt, tells-divides, or-three, or-three-back}
+use Rattle.numbers.proofs.Checks.{Agree, agree-only, agree-before, refuses-exactly, passes-exactly, number-passes}
 use Rattle.numbers.proofs.Sections.{size-is}
 use Rattle.dayfile.specs.Limits.{Limits, fileLimits}
 use Rattle.dayfile.specs.Records.{markSize, correctionSize, positionSize, markOf, correctionOf, positionOf, listsOf}
@@ -209,8 +209,7 @@ module _ (ms cs ps : List ℕ) (room : ℕ) (enough : 58392 ≤ room) where
   no-record-17 : {i : ℕ} → decisionOf (recordChecks (listsOf ms cs ps)) ≢ Met 17 i
   no-record-17 e =
       let ls = listsOf ms cs ps in
-      let k = number-within (recordChecks ls) 16 refl (refuses-exactly (recordChecks ls) (records-agree ls) .0 e) in
-      omega arith
+      not-both (number-passes (recordChecks ls) (λ k. not (eqb k 17)) refl (refuses-exactly (recordChecks ls) (records-agree ls) .0 e)) refl
 
   by-tests : (many broken : Bool) → tooManyRecords fileLimits (listsOf ms cs ps) .test 0 ≡ many → brokenList ms cs ps .test 0 ≡ broken
       → {i : ℕ} → decisionOf (makingChecks ms cs ps fileLimits room) ≢ Met 17 i

@@ -152,17 +152,21 @@ decision-for-before p q w =
 
 -- ---- the number and the index of a refusal
 
--- none of some numbers is above n
-abbrev pub noneAbove : ℕ → List ℕ → Bool
-noneAbove n [] = true
-noneAbove n (k ∷ ks) = leb k n && noneAbove n ks
+-- every one of some numbers passes a test
+abbrev pub every : (ℕ → Bool) → List ℕ → Bool
+every t [] = true
+every t (k ∷ ks) = t k && every t ks
 
-stands : {R : Type 0} (f : R → ℕ) (xs : List R) (x : R) (ys : List R) (n : ℕ) → noneAbove n (map f (xs ++ (x ∷ ys))) ≡ true → f x ≤ n
-stands f [] x ys n p = leb-true (f x) n (and-left (leb (f x) n) _ p)
-stands f (z ∷ xs) x ys n p = stands f xs x ys n (and-right (leb (f z) n) _ p)
+stands : {R : Type 0} (f : R → ℕ) (t : ℕ → Bool) (xs : List R) (x : R) (ys : List R) → every t (map f (xs ++ (x ∷ ys))) ≡ true → t (f x) ≡ true
+stands f t [] x ys p = and-left (t (f x)) _ p
+stands f t (z ∷ xs) x ys p = stands f t xs x ys (and-right (t (f z)) _ p)
 
-pub number-within : (cs : Checks) (n : ℕ) → noneAbove n (map (numberOf cs) (cs .order)) ≡ true → {k i : ℕ} → Refuses cs k i → k ≤ n
-number-within cs n p r = rw (← r .numbered) (stands (numberOf cs) (r .earlier) (r .condition) (r .later) n (rw (r .ordered) at p))
+-- so does the number of a refusal
+pub number-passes : (cs : Checks) (t : ℕ → Bool) → every t (map (numberOf cs) (cs .order)) ≡ true → {k i : ℕ} → Refuses cs k i → t k ≡ true
+number-passes cs t p r = rw (← r .numbered) (stands (numberOf cs) t (r .earlier) (r .condition) (r .later) (rw (r .ordered) at p))
+
+pub number-within : (cs : Checks) (n : ℕ) → every (λ k. leb k n) (map (numberOf cs) (cs .order)) ≡ true → {k i : ℕ} → Refuses cs k i → k ≤ n
+number-within cs n p {k} r = leb-true k n (number-passes cs (λ k. leb k n) p r)
 
 -- no check looks at more than n records
 abbrev pub Sized : Checks → ℕ → Type 0
