@@ -28,7 +28,10 @@ pub bill-divisor : (days p : ℕ) → 0 < billDivisor days p
 unfolding billDivisor
 bill-divisor days p = omega arith
 
--- every Vk is at most one whole
+-- V1 is at most one whole, and so is every Vk
+pub first-cap : {p : ℕ} → p ≤ priceLimit → firstFactor scale (bondDivisor p) ≤ scale
+first-cap {p} h = first-below scale (bondDivisor p) (bond-divisor h .0)
+
 pub factor-cap : {p : ℕ} → p ≤ priceLimit → (k : ℕ) → factor scale (bondDivisor p) k ≤ scale
 factor-cap {p} h k = factor-below scale (bondDivisor p) scale-positive (bond-divisor h .0) k
 

@@ -15,7 +15,7 @@ use Rattle.pricing.specs.Rungs.{rungAt, nextOf, Low}
 use Rattle.pricing.specs.declared.ladder.Rung.{Rung}
 use Rattle.products.specs.declared.table.Terms.the-variants.{Bond}
 use Rattle.pricing.proofs.Factors.{factor-first, factor-next, annuity-none, annuity-next}
-use Rattle.pricing.proofs.Bounds.{scale-positive, factor-cap, annuity-cap, bracket-cap}
+use Rattle.pricing.proofs.Bounds.{scale-positive, first-cap, factor-cap, annuity-cap, bracket-cap}
 
 -- the first rung
 pub first-rung : (p : ℕ) {r : ℕ} → r ≡ firstFactor scale (bondDivisor p) → record { first = r; v = r; sum = r } ≡ rungAt p 1
@@ -40,7 +40,7 @@ pub rung-low : {p k : ℕ} → p ≤ priceLimit → k ≤ 40 → Low (rungAt p k
 unfolding rungAt scale
 rung-low {p} {k} h g =
     record {
-      first = rw (← (factor-first scale (bondDivisor p))) (factor-cap h 1);
+      first = first-cap h;
       v = factor-cap h k;
       sum = le-trans (annuity-cap h k) (mul-le-mul-right scale g);
     }

@@ -157,6 +157,12 @@ pub factor-small : {p : ℕ} → p ≤ priceLimit → (k : ℕ) → factor scale
 unfolding scale
 factor-small h k = factor-cap h k
 
+-- No power of a listed bond outgrows 32 bits: of each bond of the table, at every price up to the limit, each Vk from V1 to Vn is below 2^32.
+pub factor-in-32-bits : (code : Code) (p k : ℕ) {face c n : ℕ} {product : Product} → find code ≡ Named product → product .terms ≡ Bond face c n
+    → p ≤ priceLimit → 1 ≤ k → k ≤ n → factor scale (bondDivisor p) k < 2 ^ 32
+unfolding scale
+factor-in-32-bits code p k f t h low high = omega (arith, factor-cap h k)
+
 -- No value is above 500,000,000 cents.
 pub value-cap : (code : Code) (p : ℕ) {n : ℕ} → valueOf code p ≡ given n → n ≤ valueCap
 value-cap code p e =

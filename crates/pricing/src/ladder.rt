@@ -1,4 +1,5 @@
-// The bond ladder: discount factors by rounded powers, in units of 10^-8.
+// The bond ladder: discount factors by rounded powers, in units of 10^-8. A factor is held in 32 bits and widened for
+// arithmetic; a sum of factors has 64.
 use crate::rounding::rounded;
 ghost use mathlib.Core.Path.{_≡_};
 ghost use Prim.Native.Nat.{_+_, _*_, _≤_};
@@ -17,7 +18,7 @@ pub(crate) const PAR: u64 = 1_000_000;
 // A yield of 200 per cent, which is 100 per cent for a half year.
 const BASE: u64 = 2_000_000;
 
-// x / SCALE, rounded.
+// A bracket times its face, over SCALE and rounded.
 pub(crate) fn descaled(x: u64) -> u64
     requires { ⌜ x ≤ 1000000000000000000 ⌝ }
     ensures { λ r. ⌜ r ≡ nearest x scale ⌝ }
@@ -26,17 +27,25 @@ pub(crate) fn descaled(x: u64) -> u64
 }
 
 // V1: 2,000,000 over (2,000,000 + Y), rounded.
-fn first_factor(p: u64) -> u64
+fn first_factor(p: u64) -> u32
     requires { ⌜ p ≤ priceLimit ⌝ }
     ensures { λ r. ⌜ r ≡ firstFactor scale (bondDivisor p) ⌝ }
 {
-    rounded(BASE * SCALE, BASE + (PAR - p))
+    rounded(BASE * SCALE, BASE + (PAR - p)) as u32
+}
+
+// The step of the ladder: the factor after Vk, as its arithmetic has it, is Vk times V1 over SCALE, rounded.
+fn next_factor(v: u32, first: u32) -> u64
+    requires { ⌜ v * first ≤ 1000000000000000000 ⌝ }
+    ensures { λ r. ⌜ r ≡ nearest (v * first) scale ⌝ }
+{
+    rounded(v as u64 * first as u64, SCALE)
 }
 
 // A ladder at one of its rungs: V1, Vk and V1 + .. + Vk.
 pub struct Rung {
-    pub first: u64,
-    pub v: u64,
+    pub first: u32,
+    pub v: u32,
     pub sum: u64,
 }
 
@@ -49,20 +58,20 @@ pub(crate) fn start(p: u64) -> Rung
     Rung {
         first,
         v: first,
-        sum: first,
+        sum: first as u64,
     }
 }
 
-// The next rung.
+// The next rung. Its factor is written twice, to be held and to be added, so that no local of 64 bits holds it; the compiler
+// works it once.
 pub(crate) fn climb(l: Rung) -> Rung
     requires { ⌜ Low l ⌝ }
     ensures { λ r. ⌜ r ≡ nextOf l ⌝ }
 {
-    let v = descaled(l.v * l.first);
     Rung {
         first: l.first,
-        v,
-        sum: l.sum + v,
+        v: next_factor(l.v, l.first) as u32,
+        sum: l.sum + next_factor(l.v, l.first),
     }
 }
 
@@ -71,7 +80,7 @@ pub(crate) fn bracket_of(coupon: u64, l: Rung) -> u64
     requires { ⌜ (coupon ≤ 3) × Low l ⌝ }
     ensures { λ r. ⌜ r ≡ coupon * l .sum + 100 * l .v ⌝ }
 {
-    coupon * l.sum + 100 * l.v
+    coupon * l.sum + 100 * l.v as u64
 }
 
 // The bracket of a bond.

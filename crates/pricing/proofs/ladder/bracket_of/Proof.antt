@@ -16,6 +16,7 @@ bracket-of-spec =
     tie.close
     (tie.spec
     mul-result
+    (λ c. search needs)
     (λ c. let s = c .before .before .pre in omega (arith, s .1 .v))
     add-result
     (λ c. search needs))
