@@ -84,17 +84,22 @@ def check_bill_forms():
 
 
 def check_ladder(code, bond, prices):
-    """The exact bracket is the whole number over (2,000,000 + Y)^n, every V is at most 1, and the ladder is near."""
-    farthest = 0
+    """The exact bracket is the whole number over (2,000,000 + Y)^n, every V is at most 1 and below 2^32, and the ladder is near."""
+    farthest, highest = 0, 0
     for price in prices:
         exact = exact_bracket(bond, price)
         whole = exact * (2_000_000 + yield_at(price)) ** bond.halves
         require(whole == whole_bracket(bond, price), code, "whole bracket at", price)
-        require(max(ladder(price, bond.halves)) <= SCALE, code, "a V above 1 at", price)
+        highest = max(highest, *ladder(price, bond.halves))
         farthest = max(farthest, abs(bracket_at(bond, price) - SCALE * exact))
     figure = ladder_figure(bond.coupon, bond.halves)
     require(2 * farthest <= figure, code, "ladder distance", float(farthest))
-    print(f"{code.decode()}: bracket within {float(farthest):.1f} units of the exact one, at most {figure // 2} stated")
+    require(highest <= SCALE, code, "a V above 1:", highest)
+    require(highest < 2**32, code, "a V beyond 32 bits:", highest)
+    print(
+        f"{code.decode()}: bracket within {float(farthest):.1f} units of the exact one, at most {figure // 2} stated; "
+        f"no V above {highest}, which 32 bits hold"
+    )
 
 
 def check_any_bond():
