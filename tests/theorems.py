@@ -90,12 +90,13 @@ def check_ladder(code, bond, prices):
         exact = exact_bracket(bond, price)
         whole = exact * (2_000_000 + yield_at(price)) ** bond.halves
         require(whole == whole_bracket(bond, price), code, "whole bracket at", price)
-        highest = max(highest, *ladder(price, bond.halves))
+        largest = max(ladder(price, bond.halves))
+        require(largest <= SCALE, code, "a V above 1 at", price)
+        require(largest < 2**32, code, "a V beyond 32 bits at", price)
+        highest = max(highest, largest)
         farthest = max(farthest, abs(bracket_at(bond, price) - SCALE * exact))
     figure = ladder_figure(bond.coupon, bond.halves)
     require(2 * farthest <= figure, code, "ladder distance", float(farthest))
-    require(highest <= SCALE, code, "a V above 1:", highest)
-    require(highest < 2**32, code, "a V beyond 32 bits:", highest)
     print(
         f"{code.decode()}: bracket within {float(farthest):.1f} units of the exact one, at most {figure // 2} stated; "
         f"no V above {highest}, which 32 bits hold"
