@@ -47,8 +47,8 @@ extern "C" {
 #define CITRONREEF_MAX_POSITIONS 4096
 #define CITRONREEF_MAX_LOTS 1000000
 
-/* No day file is longer than this, in bytes: 24 for the header, 16 for each of 256 marks, and 12 for each of 512 + 4,096 others. */
-#define CITRONREEF_FILE_SIZE 59416
+/* No day file is longer than this, in bytes: 24 for the header, and 12 for each of 256 + 512 + 4,096 records. */
+#define CITRONREEF_FILE_SIZE 58392
 
 /* No sheet is longer than this, in bytes: 47 for each of 4,096 positions, and 90 for the totals and the resent count. */
 #define CITRONREEF_SHEET_SIZE 192602
@@ -99,13 +99,10 @@ typedef struct {
     uint64_t length; /* of the file, in bytes */
 } citronreef_made;
 
-/*
- * The value of one contract in cents. The code is two letters; the price is in units of 0.0001, and a multiple of the product's
- * finest increment.
- */
+/* The value of one contract in cents. The code is two letters; the price is in units of 0.0001. */
 citronreef_quote citronreef_value(uint8_t first, uint8_t second, uint32_t price);
 
-/* The value at the price one tick higher, minus the value. It is a whole tick also from a price between two ticks. */
+/* The value at the price one tick higher, minus the value. */
 citronreef_quote citronreef_tick_value(uint8_t first, uint8_t second, uint32_t price);
 
 /* The bracket of a bond, in units of 10^-8. A code of no bond is refused with 4, also where the product table has it. */
@@ -118,18 +115,18 @@ citronreef_quote citronreef_bracket(uint8_t first, uint8_t second, uint32_t pric
 citronreef_outcome citronreef_settle(const uint8_t *file, size_t file_length, int64_t *amounts, size_t places);
 
 /*
- * The prices of the mark with this index, from 0, of a day file that passes checks 1 to 13, 16 and 18. A file that does not is
- * refused as citronreef_settle refuses it; a mark that the file does not have is refused with 12, and index is the one asked for.
- * The amount of a position is its lots times the change of its mark.
+ * The prices of the mark with this index, from 0, of a day file that passes checks 1 to 13 and 16. A file that does not is refused
+ * as citronreef_settle refuses it; a mark that the file does not have is refused with 12, and index is the one asked for. The
+ * amount of a position is its lots times the change of its mark.
  */
 citronreef_mark_prices citronreef_mark(const uint8_t *file, size_t file_length, size_t mark);
 
 /*
- * Whether the condition of the check with this number, 1 to 13, 16 or 18, holds in a day file, and the first record where it does.
- * Each condition is looked for by itself, so that one may be found that vanishes once an earlier one is mended. Not all of every
- * file is looked at: of one that is shorter than 24 bytes only check 1, and of one with a count above its limit only 1 to 3.
- * Otherwise the sections follow one another from byte 24 by the header's counts, whatever its offsets say, as far as the file has
- * whole records. A number of no check is answered with found 0.
+ * Whether the condition of the check with this number, 1 to 13 or 16, holds in a day file, and the first record where it does. Each
+ * condition is looked for by itself, so that one may be found that vanishes once an earlier one is mended. Not all of every file is
+ * looked at: of one that is shorter than 24 bytes only check 1, and of one with a count above its limit only 1 to 3. Otherwise the
+ * sections follow one another from byte 24 by the header's counts, whatever its offsets say, as far as the file has whole records.
+ * A number of no check is answered with found 0.
  */
 citronreef_found citronreef_find(const uint8_t *file, size_t file_length, uint32_t check);
 
@@ -141,12 +138,11 @@ citronreef_found citronreef_find(const uint8_t *file, size_t file_length, uint32
 size_t citronreef_sheet(const uint8_t *file, size_t file_length, int64_t *amounts, size_t places, uint8_t *out, size_t room);
 
 /*
- * Makes a day file of three lists, each lent as the bytes of its records, 16 for a mark and 12 for a correction or a position:
- * writes the header and the three sections at the start of out, and answers the file's length. The other bytes of out stay; a
- * refusal writes nothing. The checks are, in this order: 2, where a list has more whole records than a file may have; 3, where a
- * list is not whole records; 4, 5, 18, 6 to 13 and 16, as for a file that has these lists; and 17, where room is less than the
- * file's length. The index of 2, 3 and 17 is 0. A room of CITRONREEF_FILE_SIZE bytes is enough for every file. Out overlaps none
- * of the lists; these may overlap each other.
+ * Makes a day file of three lists, each lent as the bytes of its records, 12 for each: writes the header and the three sections at
+ * the start of out, and answers the file's length. The other bytes of out stay; a refusal writes nothing. The checks are, in this
+ * order: 2, where a list has more whole records than a file may have; 3, where a list is not whole records; 4 to 13 and 16, as for
+ * a file that has these lists; and 17, where room is less than the file's length. The index of 2, 3 and 17 is 0. A room of
+ * CITRONREEF_FILE_SIZE bytes is enough for every file. Out overlaps none of the lists; these may overlap each other.
  */
 citronreef_made citronreef_make(const uint8_t *marks, size_t marks_length, const uint8_t *corrections, size_t corrections_length,
                                 const uint8_t *positions, size_t positions_length, uint8_t *out, size_t room);

@@ -23,29 +23,24 @@ import citronreef
 import settlement
 from calculator import PRICE_LIMIT
 from citronreef import Refusal
-from days import DOCUMENT_01_DAY, correction, file, file_without_increments, mark, position
-from random_days import mistaken_days, random_day
+from days import DOCUMENT_01_DAY, correction, file, position
+from random_days import random_day
 from records import MAX_CORRECTIONS, MAX_MARKS, MAX_POSITIONS, file_of, sections_of
 from stored import cases
 
 NO_BOND = "the code is of no bond, and only a bond has a bracket"
 CODES = ("IR", "BB", "IB", "YT", "XT", "XX", "ZZ", "ir", "\0\0")
 PRICES = (
-    *(0, 5, 25, 50, 100, 940_000, 950_000, 950_010, 950_025, 950_050, 950_075, 950_100, 950_101),
-    *(PRICE_LIMIT - 100, PRICE_LIMIT - 50, PRICE_LIMIT - 25, PRICE_LIMIT),
-    *(PRICE_LIMIT + 1, PRICE_LIMIT + 25, PRICE_LIMIT + 100, 2**32 - 1),
+    *(0, 50, 100, 940_000, 950_000, 950_050, 950_100, 950_101),
+    *(PRICE_LIMIT - 100, PRICE_LIMIT - 50, PRICE_LIMIT, PRICE_LIMIT + 1, PRICE_LIMIT + 100, 2**32 - 1),
 )
 SIZES = ((1, 0, 1), (3, 5, 9), (20, 40, 60), (MAX_MARKS, MAX_CORRECTIONS, 300))
-MISTAKEN = 500
 
 
 def day_files():
-    """Stored day files and random ones, those with mistakes, and those whose marks have no increment."""
+    """Stored day files and random ones."""
     yield from (whole for _, whole, _ in cases())
-    days = [random_day(7 * seed, *sizes) for seed, sizes in enumerate(SIZES, 1)]
-    yield from map(file_of, days)
-    yield from map(file_without_increments, days)
-    yield from map(file_of, mistaken_days(123_456_789, MISTAKEN))
+    yield from (file_of(random_day(7 * seed, *sizes)) for seed, sizes in enumerate(SIZES, 1))
 
 
 def answer(call, *arguments):
@@ -172,28 +167,6 @@ class DayFiles(unittest.TestCase):
             self.assertEqual(answer(citronreef.mark, whole, 0), (16, 2))
             self.assertEqual(citronreef.sheet(whole), "refused 16 at 2\n")
 
-    def test_increments(self):
-        """The days of XT and XX near expiry, what is refused with 18, and a file of marks without increments."""
-        for whole, said in (
-            (file([mark(b"XX", previous=955_025, today=955_075, increment=25)]), citronreef.Settled((31_350,), 31_350, 0, 0)),
-            (file([mark(b"XT", previous=950_025, increment=50)]), citronreef.Settled((143_010,), 143_010, 0, 0)),
-            (file([mark(), mark(b"YT", increment=25)]), (18, 1)),
-            (file([mark(increment=0)]), (18, 0)),
-            (file([mark(padding=1)]), (18, 0)),
-            (file([mark(padding=1 << 15)]), (18, 0)),
-            (file([mark(today=PRICE_LIMIT + 100), mark(b"XT", increment=100)]), (18, 1)),
-            (file([mark(increment=1), mark(month=1)]), (5, 1)),
-            (file([mark(b"XT", today=950_025, increment=50)]), (7, 0)),
-            (file([mark(b"XT", increment=50)], [correction(price=950_025)]), (10, 0)),
-            (file_without_increments(DOCUMENT_01_DAY), (3, 0)),
-        ):
-            with self.subTest(said=said):
-                self.assertEqual(answer(citronreef.settle, whole), said)
-        with self.assertRaises(Refusal) as raised:
-            citronreef.settle(file([mark(increment=50)]))
-        words = "a mark's increment is not allowed for its product, or its last two bytes are not zero"
-        self.assertEqual(str(raised.exception), f"refused 18 at 0: {words}")
-
     def test_correction_with_number_0_decides(self):
         self.assertEqual(citronreef.mark(file(corrections=[correction(0, price=949_900)]), 0).corrected_by, 0)
 
@@ -249,13 +222,13 @@ class Tables(unittest.TestCase):
     def test_refusal(self):
         refusal = Refusal(7, 3)
         self.assertEqual((refusal.number, refusal.index), (7, 3))
-        self.assertEqual(str(refusal), f"refused 7 at 3: {citronreef.WORDS[6]}")
-        self.assertIn("finest increment", refusal.words)
+        self.assertEqual(str(refusal), "refused 7 at 3: a mark's price is not a multiple of its product's tick")
+        self.assertEqual(refusal.words, citronreef.WORDS[6])
         self.assertEqual(Refusal(99).words, "")
 
     def test_examples_of_the_module(self):
         tried = doctest.testmod(citronreef)
-        self.assertEqual((tried.failed, tried.attempted), (0, 10))
+        self.assertEqual((tried.failed, tried.attempted), (0, 9))
 
 
 if __name__ == "__main__":

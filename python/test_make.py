@@ -9,9 +9,8 @@ from test_citronreef import Refusal, citronreef, day_files
 
 import settlement
 from days import contracts, correction, day, file, held_by_many, mark, position
-from random_days import Random, copy_record, mistaken_day, random_day
-from records import CORRECTION_SIZE, HEADER_SIZE, MARK_SIZE, MAX_CORRECTIONS, MAX_MARKS, MAX_POSITIONS, POSITION_SIZE, RECORD_SIZES
-from records import day_of, file_of, lists_of, sections_of
+from random_days import Random, random_day
+from records import HEADER_SIZE, MAX_CORRECTIONS, MAX_MARKS, MAX_POSITIONS, RECORD_SIZE, day_of, file_of, lists_of, sections_of
 
 LIMITS = (MAX_MARKS, MAX_CORRECTIONS, MAX_POSITIONS)
 SMALL, FULL = 2_500, 16  # random lists
@@ -40,15 +39,18 @@ def file_length(sections):
 def damaged(random, sections):
     """The lists with some bytes changed, some records copied, with or without their last number, and some bytes lost or added."""
     sections = [bytearray(section) for section in sections]
-    for section, size in zip(sections, RECORD_SIZES):
-        if section and random.below(4) == 0:
+    for section in sections:
+        count = len(section) // RECORD_SIZE
+        if count and random.below(4) == 0:
             section[random.below(len(section))] = random.below(256)
-        if section and random.below(6) == 0:
-            copy_record(random, section, size)
+        if count and random.below(6) == 0:
+            start, other = (RECORD_SIZE * random.below(count) for _ in range(2))
+            size = RECORD_SIZE - 4 * random.below(2)
+            section[start : start + size] = section[other : other + size]
         if random.below(12) == 0:
-            section += bytes(random.below(2 * size))
+            section += bytes(random.below(2 * RECORD_SIZE))
         if random.below(12) == 0:
-            del section[max(0, len(section) - random.below(2 * size)) :]
+            del section[max(0, len(section) - random.below(2 * RECORD_SIZE)) :]
     return [bytes(section) for section in sections]
 
 
@@ -82,16 +84,15 @@ class Making(unittest.TestCase):
         sections = lists_of(whole)
         self.assertEqual(self.made(sections, len(whole)), whole)
         self.assertEqual(citronreef.make(*sections), whole)
-        self.assertEqual(len(citronreef.settle(whole).amounts_cents), len(sections[2]) // POSITION_SIZE)
+        self.assertEqual(len(citronreef.settle(whole).amounts_cents), len(sections[2]) // RECORD_SIZE)
 
     def test_random_lists(self):
-        """Valid, mistaken and damaged lists, small and full, with room for more than the file, for just the file, and for less."""
+        """Valid lists and damaged ones, small and full, each with room for more than the file, for just the file, and for less."""
         random, met = Random(88_675_123), set()
         for k in range(SMALL + FULL):
             sizes = (1 + random.below(5), random.below(6), random.below(6)) if k < SMALL else LIMITS
-            listed = random_day(random.below(2**32) + 1, *sizes)
-            sections = lists_of(file_of(mistaken_day(random, listed) if k % 3 == 1 else listed))
-            sections = damaged(random, sections) if k % 3 == 2 else sections
+            sections = lists_of(file_of(random_day(random.below(2**32) + 1, *sizes)))
+            sections = sections if k % 3 == 0 else damaged(random, sections)
             length = file_length(sections)
             for room in (length + 1 + random.below(40), length, random.below(length)):
                 with self.subTest(lists=k, room=room):
@@ -100,7 +101,7 @@ class Making(unittest.TestCase):
                     if isinstance(answer, bytes) and room == length:
                         self.assertEqual(sections_of(answer), day_of(*sections))
                         self.comes_back(answer)
-        self.assertEqual(met, {"made", *range(2, 14), 16, 17, 18})
+        self.assertEqual(met, {"made", *range(2, 14), 16, 17})
 
     def test_files_come_back(self):
         """Stored and random files that pass checks 1 to 3: their lists make them, or are refused as they are."""
@@ -123,8 +124,8 @@ class Making(unittest.TestCase):
         self.assertEqual(file_length(full), length)
         self.assertEqual(self.made(full, length), file_of(day_of(*full)))
         self.assertEqual(self.made(full, length - 1), (17, 0))
-        for k, size in enumerate(RECORD_SIZES):
-            for more, number in ((1, 3), (size - 1, 3), (size, 2), (size + 1, 2), (MANY, 2), (MANY + 1, 2)):
+        for k in range(3):
+            for more, number in ((1, 3), (RECORD_SIZE - 1, 3), (RECORD_SIZE, 2), (RECORD_SIZE + 1, 2), (MANY, 2), (MANY + 1, 2)):
                 longer = [section + bytes(more * (i == k)) for i, section in enumerate(full)]
                 with self.subTest(list=k, more=more):
                     self.assertEqual(self.made(longer, length), (number, 0))
@@ -133,42 +134,35 @@ class Making(unittest.TestCase):
     def test_lengths_that_would_wrap(self):
         """Lists of which 32 bits of the length, or of the count, are those of one record. They need addresses and no memory."""
         none, out = (None, 0), ctypes.create_string_buffer(citronreef.library.FILE_SIZE)
-        for lengths in ([2**32 + size for size in RECORD_SIZES], [size * (2**32 + 1) for size in RECORD_SIZES]):
+        for length in (2**32 + RECORD_SIZE, RECORD_SIZE * (2**32 + 1)):
             try:
-                zeros = mmap.mmap(-1, max(lengths), flags=mmap.MAP_PRIVATE | mmap.MAP_ANONYMOUS | MAP_NORESERVE)
+                zeros = mmap.mmap(-1, length, flags=mmap.MAP_PRIVATE | mmap.MAP_ANONYMOUS | MAP_NORESERVE)
             except OSError as error:
-                self.skipTest(f"a list of {max(lengths)} bytes: {error}")
+                self.skipTest(f"a list of {length} bytes: {error}")
             first = ctypes.c_char.from_buffer(zeros)
-            marks, corrections, positions = ((ctypes.addressof(first), length) for length in lengths)
-            for lent in (
-                *((*marks, *none, *none), (*none, *corrections, *none), (*none, *none, *positions)),
-                (*marks, *corrections, *positions),
-            ):
+            long = (ctypes.addressof(first), length)
+            for lent in ((*long, *none, *none), (*none, *long, *none), (*none, *none, *long), 3 * long):
                 with self.subTest(lent=lent):
                     said = MAKE(*lent, out, len(out))
                     self.assertEqual((said.refused, said.index, said.length), (2, 0, 0))
                     self.assertFalse(any(out.raw))
 
     def test_order(self):
-        """Two faults at once: 2, 3, 4, 5, 18, 6 to 13, 16, 17."""
+        """Two faults at once: 2, 3, 4 to 13, 16, 17."""
         two = held_by_many(10, -4)
         for sections, room, answer in (
             ([b"", b"", b""], HEADER_SIZE - 1, (17, 0)),
             ([b"", b"", b""], 0, (17, 0)),
             ([b"", b"", b"\0"], 0, (3, 0)),
-            ([b"\0", b"", bytes(POSITION_SIZE * (MAX_POSITIONS + 1))], 0, (2, 0)),
-            ([bytes(MARK_SIZE * MAX_MARKS + 15), bytes(CORRECTION_SIZE * (MAX_CORRECTIONS + 1)), b""], 99, (2, 0)),
-            ([bytes(MARK_SIZE), bytes(5), b""], 99, (3, 0)),
-            ([mark().packed()[:12], b"", b""], 99, (3, 0)),
-            ([bytes(MARK_SIZE), b"", b""], 0, (4, 0)),
+            ([b"\0", b"", bytes(RECORD_SIZE * (MAX_POSITIONS + 1))], 0, (2, 0)),
+            ([bytes(RECORD_SIZE * MAX_MARKS + 11), bytes(RECORD_SIZE * (MAX_CORRECTIONS + 1)), b""], 99, (2, 0)),
+            ([bytes(RECORD_SIZE), bytes(5), b""], 99, (3, 0)),
+            ([bytes(RECORD_SIZE), b"", b""], 0, (4, 0)),
             (lists([mark(), mark(b"ZZ")], [correction(mark=9)], two), 99, (4, 1)),
-            (lists([mark(increment=0), mark(month=1)], [], two), 99, (5, 1)),
-            (lists([mark(today=1_000_001), mark(b"YT", increment=25)], [], two), 0, (18, 1)),
-            (lists([mark(previous=1), mark(b"BB", padding=1)], [correction(mark=9)], two), 0, (18, 1)),
             (lists([mark()], [correction(), correction(8, 1)], two), 0, (9, 1)),
             (lists([mark()], [], [position(), position(), position(0, account=12)]), 0, (13, 2)),
             (lists([mark()], [], [position(), position()]), 0, (16, 1)),
-            (lists([mark()], [], two), HEADER_SIZE + MARK_SIZE + 2 * POSITION_SIZE - 1, (17, 0)),
+            (lists([mark()], [], two), HEADER_SIZE + 3 * RECORD_SIZE - 1, (17, 0)),
         ):
             with self.subTest(answer=answer):
                 self.assertEqual(self.made(sections, room), answer)
@@ -184,7 +178,7 @@ class Making(unittest.TestCase):
 class Module(unittest.TestCase):
     def test_refusals_in_words(self):
         for sections, said in (
-            ([bytes(MARK_SIZE * (MAX_MARKS + 1)), b"\0", b""], "refused 2 at 0: a count is above its limit"),
+            ([bytes(RECORD_SIZE * (MAX_MARKS + 1)), b"\0", b""], "refused 2 at 0: a count is above its limit"),
             ([b"", b"\0", b""], "refused 3 at 0: a list is not whole records"),
             (lists(positions=[position(), position(mark=1)]), "refused 12 at 1: a position names no mark"),
             (lists(positions=[position(), position()]), "refused 16 at 1: two positions agree in account and mark"),

@@ -1,7 +1,7 @@
 """A calculator for the value of one contract, in exact fractions, that shares nothing with the program it tests.
 
-It is written from document 01: "Prices and products", "Value of one contract" and "Why a call is turned away". The finest
-increments were asked for afterwards. Every rounding is floor(f + 1/2) of a Fraction.
+It is written from document 01: "Prices and products", "Value of one contract" and "Why a call is turned away". Every
+rounding is floor(f + 1/2) of a Fraction.
 """
 import math
 from dataclasses import dataclass
@@ -42,30 +42,24 @@ class Bond:
 
 @dataclass(frozen=True)
 class Product:
-    """A line of the product table, with the tick and the finest increment of a day near expiry."""
+    """A line of the product table."""
 
     terms: object
     currency: str
     tick: int
-    finest: int
     months: tuple
-
-    @property
-    def increments(self):
-        """The increments that a day may have."""
-        return (self.tick,) if self.finest == self.tick else (self.tick, self.finest)
 
 
 QUARTERS = (3, 6, 9, 12)
 EVERY_MONTH = tuple(range(1, 13))
 
 PRODUCTS = {
-    b"IR": Product(Bill(1_000_000, 90), "AUD", 100, 100, QUARTERS),
-    b"BB": Product(Bill(1_000_000, 90), "NZD", 100, 100, QUARTERS),
-    b"IB": Product(CashRate(2_466), "AUD", 50, 50, EVERY_MONTH),
-    b"YT": Product(Bond(100_000, 3, 6), "AUD", 50, 50, QUARTERS),
-    b"XT": Product(Bond(100_000, 3, 20), "AUD", 50, 25, QUARTERS),
-    b"XX": Product(Bond(50_000, 2, 40), "AUD", 50, 25, QUARTERS),
+    b"IR": Product(Bill(1_000_000, 90), "AUD", 100, QUARTERS),
+    b"BB": Product(Bill(1_000_000, 90), "NZD", 100, QUARTERS),
+    b"IB": Product(CashRate(2_466), "AUD", 50, EVERY_MONTH),
+    b"YT": Product(Bond(100_000, 3, 6), "AUD", 50, QUARTERS),
+    b"XT": Product(Bond(100_000, 3, 20), "AUD", 50, QUARTERS),
+    b"XX": Product(Bond(50_000, 2, 40), "AUD", 50, QUARTERS),
 }
 
 
@@ -74,9 +68,9 @@ def price_range(first, last, step):
     return range(first, last + 1, step)
 
 
-def prices_on_finest(product):
-    """Every multiple of the finest increment within the limit."""
-    return price_range(0, PRICE_LIMIT, product.finest)
+def prices_on_tick(product):
+    """Every multiple of the tick within the limit."""
+    return price_range(0, PRICE_LIMIT, product.tick)
 
 
 # Values
@@ -156,12 +150,12 @@ class Refused:
 
 
 def refusal(code, price):
-    """Checks 4, 6 and 7, in that order, 7 by the finest increment: the first that the call fails, or None where it passes all."""
+    """Checks 4, 6 and 7, in that order: the first that the call fails, or None where it passes all."""
     if code not in PRODUCTS:
         return Refused(4)
     if price > PRICE_LIMIT:
         return Refused(6)
-    if price % PRODUCTS[code].finest != 0:
+    if price % PRODUCTS[code].tick != 0:
         return Refused(7)
     return None
 
@@ -175,7 +169,7 @@ def value(code, price):
 
 
 def tick_value(code, price):
-    """The value at the price one tick higher, minus the value. It is the tick of document 01 for every product."""
+    """The value at the price one tick higher, minus the value."""
     refused = refusal(code, price)
     if refused:
         return refused

@@ -1,26 +1,75 @@
 #!/usr/bin/env python3
-"""Holds docs/DAYFILE.md to the truth: its bytes, its sheet, its tables, its figures and the definitions that it names; and the
-increments that docs/LIBRARY.md and docs/REFUSALS.md have.
+"""Holds docs/DAYFILE.md to the truth: its bytes, its sheet, its tables, its figures and the definitions that it names.
 
   dayfile_page.py
 
 The values come from calculator.py and settlement.py. The figures with a dagger are those of the proved table.
 """
-import math
 import re
+import struct
 import sys
 from fractions import Fraction
+from pathlib import Path
 
 import calculator
-from calculator import EVERY_MONTH, PRICE_LIMIT, PRODUCTS, Bill, Bond, CashRate
-from page import CASE, FIGURES, FILE, HEADINGS, LONGEST, PAGE, PRODUCT, REFUSAL, ROOT, VALUE, mentions, number, rows, says, under
-from page_answers import check_answers, check_made, check_refusals
-from records import HEADER_SIZE, MAX_CORRECTIONS, MAX_MARKS, MAX_POSITIONS, RECORD_SIZES, file_length, header_numbers
+from calculator import PRICE_LIMIT, PRODUCTS, Bill, Bond, CashRate
+from days import contracts, day, file, held_by_many, position
+from records import HEADER_SIZE, MAX_CORRECTIONS, MAX_MARKS, MAX_POSITIONS, RECORD_SIZE, lists_of
 from require import require
-from settlement import INPUT_LIMIT, MAX_LOTS, settle, sheet
+from settlement import INPUT_LIMIT, MAX_LOTS, Refused, make, record_checks, settle, sheet
 from theorems import ACCURACY, ladder_figure
 
+ROOT = Path(__file__).resolve().parent.parent
+PAGE = (ROOT / "docs" / "DAYFILE.md").read_text()
+CASE = (ROOT / "crates" / "cases" / "data" / "case_of_document_01").read_bytes()
+LONGEST = HEADER_SIZE + RECORD_SIZE * (MAX_MARKS + MAX_CORRECTIONS + MAX_POSITIONS)
 DAGGER = " †"
+HEADINGS = PRODUCT, VALUE, FILE, REFUSAL, FIGURES, _, _, _ = [
+    "Prices and products",
+    "Value of one contract, in cents",
+    "The day file",
+    "Why a call is turned away",
+    "Figures, with those of the proved table marked †",
+    "Ways a desk gets this wrong",
+    "Where each form goes",
+    "Agreement on what is promised",
+]
+
+
+# Parts of the page
+
+
+def under(heading):
+    """The text under a heading, up to the next one of the second level."""
+    return PAGE.split(f"\n## {heading}\n")[1].split("\n## ")[0]
+
+
+def rows(text, *columns):
+    """The cells of the table with these columns, a list for each row."""
+    head = f"| {' | '.join(columns)} |\n|{'---|' * len(columns)}\n"
+    require(text.count(head) == 1, "one table of", *columns)
+    lines = text.split(head)[1].split("\n\n")[0].splitlines()
+    return [line.strip("| ").split(" | ") for line in lines]
+
+
+def number(text):
+    """A number with separators, as the page writes it."""
+    return int(text.replace(",", "").replace("−", "-"))
+
+
+def figure(answer):
+    """An answer of the calculator as the page writes it."""
+    return f"{answer:,}" if isinstance(answer, int) else str(answer)
+
+
+def says(sentence):
+    """Whether the page says this, wherever its lines break."""
+    require(sentence in " ".join(PAGE.split()), sentence)
+
+
+def mentions(text, *numbers):
+    for n in numbers:
+        require(re.search(rf"(?<![\d,]){n:,}(?!,?\d)", text), f"{n:,} is mentioned")
 
 
 # The file, its sheet and its layout
@@ -34,7 +83,7 @@ def check_case():
         part = bytes.fromhex(content)
         last = re.search(r"(?:: |lots )([−\d,]+)(?: \w+)?$", said)
         if last:
-            require(int.from_bytes(part[-4:], "little", signed=True) == number(last.group(1)), "what is said of byte", at)
+            require(struct.unpack("<i", part[-4:])[0] == number(last.group(1)), "what is said of byte", at)
         shown += part
     require(shown == CASE, "the bytes shown are those of the stored file")
     says(f"Its {len(CASE)} bytes in hexadecimal:")
@@ -42,25 +91,8 @@ def check_case():
     require(f"\n\n{lines}\n" in PAGE, "the sheet that is shown")
 
 
-def worked(formula, counts):
-    """What a formula such as 24 + 16 × M gives where M, C and N are these counts."""
-    names = dict(zip("MCN", counts))
-    products = [term.split(" × ") for term in formula.split(" + ")]
-    return sum(math.prod(names[word] if word in names else int(word) for word in words) for words in products)
-
-
-def check_layout():
-    """The offsets of the header's table, the length of a file that is read or made, and the sizes of records."""
-    offsets = [must_be for _, said, must_be in rows(under(FILE), "bytes", "u32", "must be") if said.startswith("offset ")]
-    of_read, of_made = re.findall(r"The file has ([\d+×MCN ]+) bytes", under(FILE))
-    for counts in ((0, 0, 0), (1, 2, 2), (7, 5, 3), (MAX_MARKS, MAX_CORRECTIONS, MAX_POSITIONS)):
-        require([worked(offset, counts) for offset in offsets] == list(header_numbers(*counts)[1::2]), "offsets of", *counts)
-        require(worked(of_read, counts) == worked(of_made, counts) == file_length(*counts), "the length of", *counts)
-    says("a mark has {} bytes, a correction {}, and a position {}.".format(*RECORD_SIZES))
-
-
 def check_limits():
-    mentions(under(FILE), HEADER_SIZE, *RECORD_SIZES, MAX_MARKS, MAX_CORRECTIONS, MAX_POSITIONS, LONGEST)
+    mentions(under(FILE), HEADER_SIZE, RECORD_SIZE, MAX_MARKS, MAX_CORRECTIONS, MAX_POSITIONS, LONGEST)
     mentions(under(REFUSAL), MAX_MARKS, MAX_CORRECTIONS, MAX_POSITIONS, MAX_LOTS, LONGEST)
     mentions(under(FIGURES), INPUT_LIMIT)
 
@@ -81,39 +113,9 @@ def check_products():
     table = []
     for code, product in PRODUCTS.items():
         kind, said = terms(product)
-        steps, months = [str(product.tick), str(product.finest)], " ".join(map(str, product.months))
-        table.append([code.decode(), kind, product.currency, *steps, said, months])
-    columns = ("code", "kind", "currency", "tick in units", "finest increment", "terms", "months")
+        table.append([code.decode(), kind, product.currency, str(product.tick), said, " ".join(map(str, product.months))])
+    columns = ("code", "kind", "currency", "tick in units", "terms", "months")
     require(rows(under(PRODUCT), *columns) == table, "the product table")
-
-
-def check_increments():
-    """The sentence on the increments of those products that have more than one."""
-    finer = {code.decode(): product.increments for code, product in PRODUCTS.items() if len(product.increments) > 1}
-    require(len(set(finer.values())) == 1, "one sentence says the increments of all these products")
-    increments, codes = " and ".join(map(str, next(iter(finer.values())))), " and ".join(finer)
-    says(f"Allowed are {increments} for {codes}, and the tick alone for every other product")
-    require(finer.keys() == {"XT", "XX"}, "the products that are quoted finer near expiry")
-
-
-def allowed(product):
-    return " or ".join(map(str, product.increments))
-
-
-def check_other_pages():
-    """The product table of docs/LIBRARY.md, and the increments in words in docs/REFUSALS.md."""
-    table = []
-    for code, product in PRODUCTS.items():
-        months = "1 to 12" if product.months == EVERY_MONTH else " ".join(map(str, product.months))
-        table.append([code.decode(), product.currency, str(product.tick), allowed(product), months])
-    columns = ("code", "contract", "currency", "tick, in units of 0.0001", "increments", "months")
-    shown = rows((ROOT / "docs" / "LIBRARY.md").read_text(), *columns)
-    require([[code, *rest] for code, _, *rest in shown] == table, "the product table of docs/LIBRARY.md")
-    codes = {}
-    for code, product in PRODUCTS.items():
-        codes.setdefault(allowed(product), []).append(code.decode())
-    told = ", ".join(f"{increments} for {' and '.join(of)}" for increments, of in codes.items())
-    require(f": {told}." in " ".join((ROOT / "docs" / "REFUSALS.md").read_text().split()), "docs/REFUSALS.md says:", told)
 
 
 def check_distances():
@@ -124,11 +126,6 @@ def check_distances():
         table.append([code.decode(), distance, f"{ACCURACY[code]:,}"])
     columns = ("code", "the ladder's distance, units of 10^−8", "accuracy figure, thousandths of a cent")
     require(rows(under(VALUE), *columns) == table, "the distances")
-
-
-def figure(answer):
-    """An answer of the calculator as the page writes it."""
-    return f"{answer:,}" if isinstance(answer, int) else str(answer)
 
 
 def check_figures():
@@ -184,8 +181,6 @@ def check_worked():
     half = calculator.bracket(b"YT", 999_950)
     says(f"YT at 999,950 has the bracket {half:,}, which is {half / 1_000:,} cents.")
     says(f"The value is {calculator.value(b'YT', 999_950):,}.")
-    finer, tick_later = calculator.value(b"XT", 950_025), calculator.value(b"XT", 950_075)
-    says(f"at 950,075 minus that at 950,025, {tick_later:,} − {finer:,} = {calculator.tick_value(b'XT', 950_025):,}.")
     change, settled = later - bill, settle(CASE, MAX_POSITIONS)
     long, short = settled.amounts
     says(f"The value of one contract was {bill:,} † cents at 950,000 and is {later:,} † at 950,100: a change of {change:,}.")
@@ -193,7 +188,69 @@ def check_worked():
     says(f"The total is {settled.aud:,} Australian cents")
 
 
-# Names and form
+# Refusals, answers to files, names
+
+
+def check_refusals():
+    """The numbers 1 to 17 are told one by one, here and in docs/REFUSALS.md, in one order, and of the same records."""
+    items = re.findall(r"^(\d+)\. (.*(?:\n +.*)*)", under(REFUSAL), re.MULTILINE)
+    refusals = (ROOT / "docs" / "REFUSALS.md").read_text()
+    for numbers in ([n for n, _ in items], re.findall(r"^(\d+)\. ", refusals, re.MULTILINE)):
+        require(list(map(int, numbers)) == list(range(1, 18)), "the numbers 1 to 17")
+    mentions(refusals, LONGEST)
+    words = rows(refusals, "number", "words", "the index counts")
+    of_records = [n for n, _, _ in record_checks(day())]
+    of_file, of_lists = [1, 2, 3, *of_records, 14], [2, 3, *of_records, 17]
+    says(f"of a file it is {' '.join(map(str, of_file))}.")
+    says(f" are {' '.join(map(str, of_lists))}, in this order.")
+    require([int(n) for n, _, _ in words] == [*of_file, 15, 17], "the order of docs/REFUSALS.md")
+    counted = {n: records for n, _, records in words}
+    for n, text in items:
+        index, records = re.search(r"Index: (\w+)(, the later of the two)?\.", " ".join(text.split())), counted[n]
+        require(index and index.group(1) == records.split(",")[0], "the section of", n)
+        require(bool(index.group(2)) == records.endswith("the second of the two"), "which of two records", n)
+        require("Look " in text, "what a person looks at for", n)
+
+
+def check_answers():
+    """The answers to small files: what passes a check is accepted by it, and the others are refused as said."""
+    header = struct.pack("<6I", 0, 24, 0, 24, 0, 24)
+    files = {
+        "23 bytes": header[:23],
+        "24 bytes, all counts 0 and all offsets 24": header,
+        f"{MAX_MARKS} marks": file(contracts(MAX_MARKS)),
+        f"{MAX_MARKS + 1} marks": file(contracts(MAX_MARKS + 1)),
+        f"lots {MAX_LOTS:,}": file(positions=[position(MAX_LOTS)]),
+        f"lots {MAX_LOTS + 1:,}": file(positions=[position(MAX_LOTS + 1)]),
+        "N = 2 and a slice of one place": file(positions=held_by_many(10, 10)),
+        "the same, both of one account in one mark": file(positions=[position(), position()]),
+    }
+    table = rows(under(FIGURES), "file", "answer")
+    require([name for name, _ in table] == list(files), "the files that are answered")
+    for name, said in table:
+        answer = settle(files[name], 1)
+        passes = not said.startswith("refused")
+        require(passes != isinstance(answer, Refused) and (passes or str(answer).startswith(said)), name)
+
+
+def check_made():
+    """The answers to small lists: a file of so many bytes, which has them, or a refusal."""
+    marks = lists_of(file(contracts(MAX_MARKS), [], []))[0]
+    lists = {
+        "three empty ones": (b"", b"", b""),
+        f"those of the {len(CASE)} bytes above": lists_of(CASE),
+        f"{MAX_MARKS} marks": (marks, b"", b""),
+        f"{MAX_MARKS} marks and 11 bytes": (marks + bytes(11), b"", b""),
+        f"{MAX_MARKS + 1} marks and 11 bytes": (marks + bytes(RECORD_SIZE + 11), b"", b""),
+        f"{MAX_MARKS} marks, and a position that names none": (marks, b"", position(mark=MAX_MARKS).packed()),
+    }
+    table = rows(under(FIGURES), "lists", "bytes of the buffer", "answer")
+    require({name for name, _, _ in table} == set(lists), "the lists that a file is made of")
+    for name, room, said in table:
+        answer = make(*lists[name], number(room))
+        made = isinstance(answer, bytes)
+        require(said.split(", ")[0] == (f"{len(answer):,} bytes" if made else str(answer)), name, room)
+        require(not made or lists_of(answer) == lists[name], "the file has", name)
 
 
 def check_names():
@@ -212,8 +269,8 @@ def check_form():
 
 
 CHECKS = [
-    *(check_form, check_names, check_case, check_layout, check_limits, check_products, check_increments, check_other_pages),
-    *(check_distances, check_figures, check_formulas, check_worked, check_refusals, check_answers, check_made),
+    *(check_form, check_names, check_case, check_limits, check_products, check_distances),
+    *(check_figures, check_formulas, check_worked, check_refusals, check_answers, check_made),
 ]
 
 if __name__ == "__main__":

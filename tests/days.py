@@ -6,10 +6,8 @@ from records import Correction, Day, Mark, Position, file_of
 from settlement import MAX_YEAR
 
 
-def mark(code=b"IR", month=3, year=18, previous=950_000, today=950_200, increment=None, padding=0):
-    """A mark of a day with this increment, or with the product's tick where none is given."""
-    tick = PRODUCTS[code].tick if code in PRODUCTS else 100
-    return Mark(code, month, year, previous, today, tick if increment is None else increment, padding)
+def mark(code=b"IR", month=3, year=18, previous=950_000, today=950_200):
+    return Mark(code, month, year, previous, today)
 
 
 def correction(number=7, mark=0, price=950_100):
@@ -38,14 +36,6 @@ def with_header(whole, **changed):
     names = ("m", "m_at", "c", "c_at", "n", "n_at")
     numbers = dict(zip(names, struct.unpack_from("<6I", whole))) | changed
     return struct.pack("<6I", *numbers.values()) + whole[24:]
-
-
-def file_without_increments(records):
-    """The file of a day's records in the layout before the finer increments: a mark ends with today's price and has 12 bytes."""
-    m, c, n = map(len, (records.marks, records.corrections, records.positions))
-    header = struct.pack("<6I", m, 24, c, 24 + 12 * m, n, 24 + 12 * (m + c))
-    marks = [record.packed()[:12] for record in records.marks]
-    return header + b"".join(marks + [record.packed() for record in (*records.corrections, *records.positions)])
 
 
 def contracts(count):

@@ -159,7 +159,7 @@ prints "a Python program" "98784544 cents
 (24060, -9624) 14436 0 1
 MarkPrices(previous=Decimal('95.0000'), final_price=Decimal('95.0100'), corrected_by=7, change_cents=2406)
 True
-7 0 a mark's previous price is not a multiple of its product's finest increment, or today's of the day's increment" python3 "$programs/example.py" <"$day"
+7 0 a mark's price is not a multiple of its product's tick" python3 "$programs/example.py" <"$day"
 for test in python/test_*.py; do
     tested=$(python3 "$test" 2>&1) || fail "$test: $tested"
     ok "$test: $(sed -n 's/^Ran \([0-9]* tests\).*/\1/p' <<<"$tested")"

@@ -1,12 +1,8 @@
-"""Random days that pass every check, and mistakes in them: in increments, in the prices that go by them, and copied records."""
-from dataclasses import replace
-
-from calculator import PRICE_LIMIT, PRODUCTS
+"""Random days that pass every check."""
+from calculator import PRICE_LIMIT
+from days import contracts
 from records import Correction, Day, Mark, Position
-from settlement import MAX_LOTS, MAX_YEAR
-
-# Every increment of some product, those between and beside them, such with a high byte, and the ends of their range.
-INCREMENTS = (0, 1, 5, 10, 20, 25, 30, 50, 75, 100, 200, 256, 256 + 25, 256 + 50, 25 * 256, 50 * 256, 65_535)
+from settlement import MAX_LOTS
 
 
 class Random:
@@ -23,27 +19,13 @@ class Random:
         self.state = x
         return x % bound
 
-    def one_of(self, things):
-        return things[self.below(len(things))]
-
-    def price(self, increment):
-        return increment * self.below(PRICE_LIMIT // increment + 1)
+    def price(self, tick):
+        return tick * self.below(PRICE_LIMIT // tick + 1)
 
 
-def random_contracts(random, count):
-    """So many different contracts, each a code, a month and a year."""
-    chosen = {}
-    while len(chosen) < count:
-        code = random.one_of(list(PRODUCTS))
-        chosen.setdefault((code, random.one_of(PRODUCTS[code].months), random.below(MAX_YEAR + 1)))
-    return list(chosen)
-
-
-def random_mark(random, code, month, year):
-    """A mark of a day with one of the product's increments; the previous price may be finer than that."""
-    product = PRODUCTS[code]
-    increment = random.one_of(product.increments)
-    return Mark(code, month, year, random.price(product.finest), random.price(increment), increment, 0)
+def random_mark(random, contract):
+    tick = contract.product.tick
+    return Mark(contract.code, contract.month, contract.year, random.price(tick), random.price(tick))
 
 
 def random_corrections(random, marks, count):
@@ -52,7 +34,7 @@ def random_corrections(random, marks, count):
     corrections = []
     while len(corrections) < count:
         number, index = random.below(2 * count), random.below(len(marks))
-        made.setdefault(number, Correction(number, index, random.price(marks[index].increment)))
+        made.setdefault(number, Correction(number, index, random.price(marks[index].product.tick)))
         corrections.append(made[number])
     return corrections
 
@@ -70,53 +52,6 @@ def random_positions(random, marks, count):
 def random_day(seed, marks, corrections, positions):
     """A day of so many marks, corrections and positions."""
     random = Random(seed)
-    listed = [random_mark(random, *contract) for contract in random_contracts(random, marks)]
+    listed = [random_mark(random, contract) for contract in contracts(marks)]
     corrected = random_corrections(random, listed, corrections)
     return Day(listed, corrected, random_positions(random, listed, positions))
-
-
-def small_day(random):
-    """A day of up to five marks, corrections and positions, with one mark at least."""
-    return random_day(random.below(2**32) + 1, 1 + random.below(5), random.below(6), random.below(6))
-
-
-def copy_record(random, section, size):
-    """Copies a record of a section's bytes, with or without its last four bytes, to the place of one of its records."""
-    start, other = (size * random.below(len(section) // size) for _ in range(2))
-    part = size - 4 * random.below(2)
-    section[start : start + part] = section[other : other + part]
-
-
-def mistaken_mark(random, listed):
-    """A mark with another increment, with two other bytes after it, or with a price that is finer, which may be no mistake."""
-    price = random.price(random.one_of((1, 5, 25, 25, 25)))
-    changes = (
-        {"increment": random.one_of(INCREMENTS)},
-        {"increment": random.below(2**16)},
-        {"padding": 1 << random.below(16)},
-        {"previous": price},
-        {"today": price},
-    )
-    return replace(listed, **random.one_of(changes))
-
-
-def mistaken_correction(random, sent):
-    """A correction to a multiple of the finest of all increments, or to any price."""
-    return replace(sent, price=random.price(random.one_of((1, 25, 25, 25))))
-
-
-def mistaken_day(random, day):
-    """The day with a mistake or two in marks and corrections."""
-    marks, corrections = list(day.marks), list(day.corrections)
-    for _ in range(1 + random.below(2)):
-        for records, mistaken in ((marks, mistaken_mark), (corrections, mistaken_correction)):
-            if records and random.below(2):
-                at = random.below(len(records))
-                records[at] = mistaken(random, records[at])
-    return Day(marks, corrections, day.positions)
-
-
-def mistaken_days(seed, count):
-    """So many small days with mistakes."""
-    random = Random(seed)
-    return [mistaken_day(random, small_day(random)) for _ in range(count)]

@@ -1,14 +1,11 @@
-"""The records of a day file and its layout, written from document 01: "The day file". A mark's increment was asked for later."""
+"""The records of a day file and its layout, written from document 01: "The day file"."""
 import struct
 from dataclasses import dataclass
 
 from calculator import PRODUCTS
 
 HEADER_SIZE = 24
-MARK_SIZE = 16
-CORRECTION_SIZE = 12
-POSITION_SIZE = 12
-RECORD_SIZES = (MARK_SIZE, CORRECTION_SIZE, POSITION_SIZE)
+RECORD_SIZE = 12
 MAX_MARKS = 256
 MAX_CORRECTIONS = 512
 MAX_POSITIONS = 4_096
@@ -24,16 +21,13 @@ class Mark:
     year: int
     previous: int
     today: int
-    increment: int
-    padding: int
 
     def packed(self):
-        fields = (self.code, self.month, self.year, self.previous, self.today, self.increment, self.padding)
-        return struct.pack("<2sBBIIHH", *fields)
+        return struct.pack("<2sBBII", self.code, self.month, self.year, self.previous, self.today)
 
     @staticmethod
     def unpacked(record):
-        return Mark(*struct.unpack("<2sBBIIHH", record))
+        return Mark(*struct.unpack("<2sBBII", record))
 
     @property
     def product(self):
@@ -80,21 +74,10 @@ class Day:
 # Layout
 
 
-def offsets(marks, corrections, positions):
-    """Where the three sections of so many records start, and where the file ends."""
-    after_marks = HEADER_SIZE + MARK_SIZE * marks
-    after_corrections = after_marks + CORRECTION_SIZE * corrections
-    return HEADER_SIZE, after_marks, after_corrections, after_corrections + POSITION_SIZE * positions
-
-
 def header_numbers(marks, corrections, positions):
     """The six header numbers that the layout has for these counts."""
-    marks_at, corrections_at, positions_at, _ = offsets(marks, corrections, positions)
-    return marks, marks_at, corrections, corrections_at, positions, positions_at
-
-
-def file_length(marks, corrections, positions):
-    return offsets(marks, corrections, positions)[-1]
+    after_marks = HEADER_SIZE + RECORD_SIZE * marks
+    return (marks, HEADER_SIZE, corrections, after_marks, positions, after_marks + RECORD_SIZE * corrections)
 
 
 def file_of(day, header=None):
@@ -104,18 +87,13 @@ def file_of(day, header=None):
     return struct.pack("<6I", *numbers) + b"".join(r.packed() for section in sections for r in section)
 
 
-def records_of(kind, size, section):
-    """The whole records of a section's bytes."""
-    return [kind.unpacked(section[i : i + size]) for i in range(0, len(section) - size + 1, size)]
-
-
 def day_of(marks, corrections, positions):
-    """The day of three lists, each the bytes of records."""
-    return Day(
-        records_of(Mark, MARK_SIZE, marks),
-        records_of(Correction, CORRECTION_SIZE, corrections),
-        records_of(Position, POSITION_SIZE, positions),
-    )
+    """The day of three lists, each the bytes of whole records."""
+
+    def records(kind, section):
+        return [kind.unpacked(section[i : i + RECORD_SIZE]) for i in range(0, len(section), RECORD_SIZE)]
+
+    return Day(records(Mark, marks), records(Correction, corrections), records(Position, positions))
 
 
 def lists_of(file):

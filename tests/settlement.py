@@ -1,9 +1,9 @@
 #!/usr/bin/env python3
 """The settlement of a day file in plain Python, which shares nothing with the program it tests.
 
-It is written from document 01: "The day file", "Why a call is turned away" and the sheet. Checks 16 and 18, the day's increment and
-the making of a file were asked for afterwards. Records and layout are in records.py, and values come from calculator.py, in exact
-fractions. Nothing here is quick: a clash of marks or of corrections is looked for among all earlier records.
+It is written from document 01: "The day file", "Why a call is turned away" and the sheet. Check 16 and the making of a file were
+asked for afterwards. Records and layout are in records.py, and values come from calculator.py, in exact fractions. Nothing here is
+quick: a clash of marks or of corrections is looked for among all earlier records.
 
   settlement.py < file     prints the sheet of a day file
 """
@@ -13,8 +13,7 @@ from dataclasses import dataclass
 
 import calculator
 from calculator import PRICE_LIMIT, PRODUCTS
-from records import HEADER_SIZE, MAX_CORRECTIONS, MAX_MARKS, MAX_POSITIONS, RECORD_SIZES
-from records import day_of, file_length, header_numbers, sections_of
+from records import HEADER_SIZE, MAX_CORRECTIONS, MAX_MARKS, MAX_POSITIONS, RECORD_SIZE, day_of, header_numbers, sections_of
 
 MAX_LOTS = 1_000_000
 MAX_YEAR = 99
@@ -59,10 +58,11 @@ def layout_refusal(file):
     if len(file) < HEADER_SIZE:
         return Refused(1, 0)
     header = struct.unpack_from("<6I", file)
-    counts = header[::2]
-    if is_too_many(*counts):
+    marks, _, corrections, _, positions, _ = header
+    if is_too_many(marks, corrections, positions):
         return Refused(2, 0)
-    if header != header_numbers(*counts) or len(file) != file_length(*counts):
+    records = marks + corrections + positions
+    if header != header_numbers(marks, corrections, positions) or len(file) != HEADER_SIZE + RECORD_SIZE * records:
         return Refused(3, 0)
     return None
 
@@ -71,23 +71,12 @@ def is_above_limit(price):
     return price > PRICE_LIMIT
 
 
-def has_wrong_increment(mark):
-    """The increment is none of the product's, or the two bytes after it are not zero."""
-    return mark.increment not in mark.product.increments or mark.padding != 0
+def is_off_tick(product, price):
+    return price % product.tick != 0
 
 
-def has_price_above_limit(mark):
-    return is_above_limit(mark.previous) or is_above_limit(mark.today)
-
-
-def has_price_off_increment(mark):
-    """The previous price goes by the product's finest increment, today's by the day's."""
-    return mark.previous % mark.product.finest != 0 or mark.today % mark.increment != 0
-
-
-def has_wrong_price(correction, mark):
-    """A correction goes by the increment of the mark that it names."""
-    return is_above_limit(correction.price) or correction.price % mark.increment != 0
+def prices_of(mark):
+    return (mark.previous, mark.today)
 
 
 def agree_in_contract(mark, other):
@@ -116,18 +105,17 @@ def repeated_positions(positions):
 
 
 def record_checks(day):
-    """Checks 4, 5, 18, 6 to 13 and 16 in their order: number, how many records, and whether record i fails."""
+    """Checks 4 to 13 and 16 in their order: number, how many records, and whether record i fails."""
     marks, corrections, positions = day.marks, day.corrections, day.positions
     repeated = repeated_positions(positions)
     return [
         (4, len(marks), lambda i: marks[i].code not in PRODUCTS),
         (5, len(marks), lambda i: marks[i].month not in marks[i].product.months or marks[i].year > MAX_YEAR),
-        (18, len(marks), lambda i: has_wrong_increment(marks[i])),
-        (6, len(marks), lambda i: has_price_above_limit(marks[i])),
-        (7, len(marks), lambda i: has_price_off_increment(marks[i])),
+        (6, len(marks), lambda i: any(is_above_limit(price) for price in prices_of(marks[i]))),
+        (7, len(marks), lambda i: any(is_off_tick(marks[i].product, price) for price in prices_of(marks[i]))),
         (8, len(marks), after_clash(marks, agree_in_contract)),
         (9, len(corrections), lambda i: corrections[i].mark >= len(marks)),
-        (10, len(corrections), lambda i: has_wrong_price(corrections[i], marks[corrections[i].mark])),
+        (10, len(corrections), lambda i: breaks_6_or_7(corrections[i], marks)),
         (11, len(corrections), after_clash(corrections, clash)),
         (12, len(positions), lambda i: positions[i].mark >= len(marks)),
         (13, len(positions), lambda i: positions[i].lots == 0 or not -MAX_LOTS <= positions[i].lots <= MAX_LOTS),
@@ -135,8 +123,14 @@ def record_checks(day):
     ]
 
 
+def breaks_6_or_7(correction, marks):
+    """Whether a correction's price breaks 6 or 7 for its mark."""
+    product = marks[correction.mark].product
+    return is_above_limit(correction.price) or is_off_tick(product, correction.price)
+
+
 def record_refusal(day):
-    """The checks of records, each over the whole file before the next: the first that fails with its first record, or None."""
+    """Checks 4 to 13 and 16, each over the whole file before the next: the first that fails with its first record, or None."""
     for number, count, fails in record_checks(day):
         for i in range(count):
             if fails(i):
@@ -212,16 +206,16 @@ def settle(file, places):
 def make(marks, corrections, positions, room):
     """The day file of three lists of record bytes, for a buffer of so many bytes, or why it is refused."""
     lists = (marks, corrections, positions)
-    counts = [len(section) // size for section, size in zip(lists, RECORD_SIZES)]
+    counts = [len(section) // RECORD_SIZE for section in lists]
     if is_too_many(*counts):
         return Refused(2, 0)
-    if any(len(section) % size for section, size in zip(lists, RECORD_SIZES)):
+    if any(len(section) % RECORD_SIZE for section in lists):
         return Refused(3, 0)
     refused = record_refusal(day_of(*lists))
     if refused:
         return refused
     header = header_numbers(*counts)
-    file = bytearray(struct.pack("<6I", *header).ljust(file_length(*counts), b"\0"))
+    file = bytearray(struct.pack("<6I", *header) + bytes(RECORD_SIZE * sum(counts)))
     for offset, section in zip(header[1::2], lists):
         file[offset : offset + len(section)] = section
     return bytes(file) if len(file) <= room else Refused(17, 0)

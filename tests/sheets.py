@@ -3,24 +3,21 @@
 
   sheets.py PROGRAM COMMAND
 
-The inputs are the stored day files, random days, such days with mistakes, and with marks that have no increment, and inputs as
-long as the program reads and longer. Also compared: what it says where it cannot read or write, and the sheet that README.md
-shows, of the file that COMMAND (citronreef) makes.
+The inputs are the stored day files, random days, and inputs as long as the program reads and longer. Also compared: what
+it says where it cannot read or write, and the sheet that README.md shows, of the file that COMMAND (citronreef) makes.
 """
 import os
 import subprocess
 import sys
 from pathlib import Path
 
-from days import file_without_increments
-from random_days import mistaken_days, random_day
+from random_days import random_day
 from records import MAX_CORRECTIONS, MAX_MARKS, MAX_POSITIONS, file_of
 from require import require
 from settlement import INPUT_LIMIT, sheet
 from stored import cases
 
 ROOT = Path(__file__).resolve().parent.parent
-MISTAKEN = 200
 SIZES = [(1, 0, 1), (3, 5, 9), (20, 40, 60), (MAX_MARKS, 0, 700), (7, MAX_CORRECTIONS, 200), (100, 100, MAX_POSITIONS)]
 
 
@@ -29,11 +26,7 @@ def inputs():
     for name, file, _ in cases():
         yield name, file
     for seed, sizes in enumerate(SIZES, 1):
-        day = random_day(seed * 7_919, *sizes)
-        yield f"a random day of {sizes}", file_of(day)
-        yield f"a random day of {sizes} whose marks have no increment", file_without_increments(day)
-    for k, day in enumerate(mistaken_days(2_463_534_242, MISTAKEN)):
-        yield f"day {k} with mistakes", file_of(day)
+        yield f"a random day of {sizes}", file_of(random_day(seed * 7_919, *sizes))
     full = file_of(random_day(65_539, MAX_MARKS, MAX_CORRECTIONS, MAX_POSITIONS))
     for length in (INPUT_LIMIT - 1, INPUT_LIMIT, INPUT_LIMIT + 1, 3 * INPUT_LIMIT):
         yield f"a full day and zeros up to {length} bytes", full.ljust(length, b"\0")

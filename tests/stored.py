@@ -5,8 +5,7 @@ Every list below gives (name, file) or (name, file, places), where places is the
 import struct
 
 from calculator import LARGEST_U32, PRICE_LIMIT, PRODUCTS
-from days import DOCUMENT_01_DAY, contracts, correction, day, file, held_by_many, mark, position
-from days import file_without_increments, with_header
+from days import DOCUMENT_01_DAY, contracts, correction, day, file, held_by_many, mark, position, with_header
 from random_days import random_day
 from records import MAX_CORRECTIONS, MAX_MARKS, MAX_POSITIONS, file_of
 from settlement import MAX_LOTS, MAX_YEAR
@@ -20,8 +19,8 @@ PLACES = 4_100  # where a case names no other length: more than any file can hav
 
 
 def wrapping_counts():
-    """16 times the count of marks is 16 in 32 bits, and the offsets and the length agree with that."""
-    return struct.pack("<6I", 2**28 + 1, 24, 0, 40, 0, 40) + mark().packed()
+    """12 times the count of marks is 8 in 32 bits, and the offsets and the length agree with that."""
+    return struct.pack("<6I", 357_913_942, 24, 0, 32, 0, 32) + bytes(8)
 
 
 LAYOUT = [
@@ -36,23 +35,20 @@ LAYOUT = [
     ("corrections_above_limit", file(corrections=[correction(k) for k in range(MAX_CORRECTIONS + 1)])),
     ("positions_at_limit", file([mark(b"IR", 3, 18, 0, PRICE_LIMIT)], [], held_by_many(*[MAX_LOTS] * MAX_POSITIONS))),
     ("positions_above_limit", file(positions=held_by_many(*[10] * (MAX_POSITIONS + 1)))),
-    ("largest_counts", struct.pack("<6I", LARGEST_U32, 24, LARGEST_U32, 8, LARGEST_U32, LARGEST_U32 - 3)),
+    ("largest_counts", struct.pack("<6I", LARGEST_U32, 24, LARGEST_U32, 12, LARGEST_U32, 0)),
     ("counts_that_would_wrap", wrapping_counts()),
     ("marks_offset_high", with_header(file_of(DOCUMENT_01_DAY), m_at=25)),
     ("corrections_offset_low", with_header(file_of(DOCUMENT_01_DAY), c_at=24)),
     ("positions_offset_largest", with_header(file_of(DOCUMENT_01_DAY), n_at=LARGEST_U32)),
-    ("offsets_of_a_gap", with_header(file_of(DOCUMENT_01_DAY), n_at=76) + bytes(12)),
+    ("offsets_of_a_gap", with_header(file_of(DOCUMENT_01_DAY), n_at=72) + bytes(12)),
     ("one_byte_short", file_of(DOCUMENT_01_DAY)[:-1]),
     ("one_byte_long", file_of(DOCUMENT_01_DAY) + bytes(1)),
     ("one_position_less_counted", with_header(file_of(DOCUMENT_01_DAY), n=1)),
     ("count_before_offset", with_header(file_of(DOCUMENT_01_DAY), m_at=0, c=MAX_CORRECTIONS + 1)),
-    ("marks_of_12_bytes", file_without_increments(DOCUMENT_01_DAY)),
-    ("four_marks_of_12_bytes", file_without_increments(day(contracts(4)))),
-    ("marks_of_12_bytes_with_offsets_of_16", with_header(file_without_increments(DOCUMENT_01_DAY), c_at=40, n_at=64)),
 ]
 
 
-# Checks 4 to 8 and 18: marks
+# Checks 4 to 8: marks
 
 MARKS = [
     ("unlisted_code", file([mark(b"ZZ")])),
@@ -63,16 +59,6 @@ MARKS = [
     ("month_of_a_cash_rate", file([mark(b"IB", month=4)])),
     ("year_99", file([mark(year=MAX_YEAR)])),
     ("year_100", file([mark(year=MAX_YEAR + 1)])),
-    ("finest_of_another_product", file([mark(), mark(b"YT", increment=25)])),
-    ("increment_below_the_tick", file([mark(increment=50)])),
-    ("increment_above_the_tick", file([mark(b"XX"), mark(b"XT", increment=100)])),
-    ("increment_between_tick_and_finest", file([mark(b"XT", increment=30)])),
-    ("increment_0", file([mark(previous=0, today=0, increment=0)])),
-    ("increment_with_a_high_byte", file([mark(b"XX", increment=25 + 256)])),
-    ("bytes_of_the_increment_exchanged", file([mark(b"XX", increment=25 * 256)])),
-    ("largest_increment", file([mark(increment=2**16 - 1)])),
-    ("byte_14_of_a_mark", file([mark(padding=1)])),
-    ("byte_15_of_a_mark", file([mark(), mark(b"XX", increment=25, padding=256)])),
     ("price_0_to_limit", file([mark(previous=0, today=PRICE_LIMIT)])),
     ("previous_price_above_limit", file([mark(previous=PRICE_LIMIT + 100)])),
     ("today_price_above_limit", file([mark(), mark(month=6, today=PRICE_LIMIT + 1)])),
@@ -80,11 +66,6 @@ MARKS = [
     ("off_tick_previous_price", file([mark(previous=950_050)])),
     ("off_tick_today_price", file([mark(), mark(b"XX", today=950_225)])),
     ("tick_of_50", file([mark(b"YT", previous=950_050, today=950_150)])),
-    ("quoted_in_25", file([mark(b"XX", previous=955_025, today=955_075, increment=25)])),
-    ("previous_price_finer_than_the_day", file([mark(b"XT", previous=950_025)])),
-    ("previous_price_off_the_finest", file([mark(b"XT", previous=950_010, increment=25)])),
-    ("today_price_finer_than_the_day", file([mark(b"XX", increment=25), mark(b"XT", today=950_225)])),
-    ("today_price_off_the_finest", file([mark(b"XX", today=950_210, increment=25)])),
     ("repeated_mark", file([mark(month=6), mark(), mark(today=950_300)])),
     ("two_repeated_marks", file([mark(), mark(b"BB"), mark(b"BB"), mark()])),
     ("marks_that_agree_in_two_fields", file([mark(), mark(b"BB"), mark(month=6), mark(year=19)])),
@@ -94,7 +75,6 @@ MARKS = [
 # Checks 9 to 11: corrections
 
 TWO_MARKS = [mark(), mark(b"BB", 6, 19, 940_000, 940_100)]
-DAYS_OF_50_AND_25 = [mark(b"XT", 3, increment=50), mark(b"XT", 6, increment=25)]
 
 CORRECTIONS = [
     ("correction_names_last_mark", file(TWO_MARKS, [correction(mark=1)], [position(), position(mark=1)])),
@@ -103,9 +83,6 @@ CORRECTIONS = [
     ("correction_above_limit", file(corrections=[correction(), correction(8, price=PRICE_LIMIT + 100)])),
     ("off_tick_correction", file(corrections=[correction(price=950_150)])),
     ("tick_of_the_named_mark", file([mark(), mark(b"XT")], [correction(7, 1, 950_150)], [position(mark=1)])),
-    ("correction_on_the_finest", file(DAYS_OF_50_AND_25, [correction(mark=1, price=950_125)], [position(mark=1)])),
-    ("correction_finer_than_the_day", file(DAYS_OF_50_AND_25, [correction(mark=1), correction(8, 0, 950_125)])),
-    ("correction_off_the_finest", file(DAYS_OF_50_AND_25, [correction(mark=1, price=950_110)])),
     ("off_tick_correction_overridden", file(corrections=[correction(1, price=950_001), correction(2)])),
     ("same_number_other_price", file(corrections=[correction(), correction(price=950_300)])),
     ("same_number_other_mark", file(TWO_MARKS, [correction(), correction(8), correction(mark=1)])),
@@ -157,9 +134,6 @@ POSITIONS = [
 
 ORDER = [
     ("code_before_month", file([mark(month=1), mark(b"ZZ")])),
-    ("month_before_increment", file([mark(increment=1), mark(month=1)])),
-    ("increment_before_limit", file([mark(today=PRICE_LIMIT + 100), mark(month=6, increment=50)])),
-    ("last_bytes_before_tick", file([mark(previous=1), mark(month=6, padding=1)])),
     ("year_before_limit", file([mark(today=PRICE_LIMIT + 100), mark(year=MAX_YEAR + 1)])),
     ("limit_before_tick", file([mark(today=950_001), mark(month=6, today=PRICE_LIMIT + 100)])),
     ("limit_before_tick_in_one_price", file([mark(today=PRICE_LIMIT + 1)])),
@@ -177,10 +151,9 @@ ORDER = [
 ]
 
 
-# Accepted files: the case of document 01, every product, every increment, resent corrections, a full file
+# Accepted files: the case of document 01, every product, resent corrections, a full file
 
 EVERY_PRODUCT = [mark(code, 12, 30, 945_000 + 600 * k, 951_000 - 700 * k) for k, code in enumerate(PRODUCTS)]
-EVERY_INCREMENT = [mark(code, year=k // 5, today=950_200 + k, increment=k) for code, p in PRODUCTS.items() for k in p.increments]
 BOTH_WAYS = [p for k in range(len(PRODUCTS)) for p in held_by_many(13 * (k + 1), -7 * (k + 1), mark=k, first=100 * k)]
 
 FIRST_LIST = [correction(4, 0, 950_400), correction(9, 1, 940_900), correction(2, 0, 950_200)]
@@ -197,7 +170,6 @@ ACCEPTED = [
     ("marks_alone", file(EVERY_PRODUCT, [], [])),
     ("every_product", file(EVERY_PRODUCT, [], BOTH_WAYS)),
     ("every_product_at_yield_0", file([mark(code, today=PRICE_LIMIT) for code in PRODUCTS], [], BOTH_WAYS)),
-    ("every_increment", file(EVERY_INCREMENT, [], [position(100 + k, k) for k in range(len(EVERY_INCREMENT))])),
     ("equal_prices", file([mark(today=950_000)], [], held_by_many(10, -10))),
     ("corrected_to_previous_price", file(corrections=[correction(price=950_000)])),
     ("first_list", resent(0, 1, 2)),

@@ -5,7 +5,7 @@
 """
 import sys
 
-from calculator import LARGEST_U32, PRICE_LIMIT, PRODUCTS, Refused, bracket, price_range, prices_on_finest, tick_value, value
+from calculator import LARGEST_U32, PRICE_LIMIT, PRODUCTS, Refused, bracket, price_range, prices_on_tick, tick_value, value
 from digest import digest
 
 
@@ -50,12 +50,11 @@ PRICES_OF_ANY_CODE = (950_000, 0, PRICE_LIMIT + 1, 950_025)
 
 
 def sweep_product(code, product):
-    """A listed product: at every multiple of its finest increment, off it, and above the limit."""
+    """A listed product: at every multiple of the tick, off the tick, and above the limit."""
     print_lines(code, price_range(0, PRICE_LIMIT, 50_000))
-    print_digest(code, "digest", prices_on_finest(product))
-    print_lines(code, price_range(950_000, 950_030, 5))
-    print_lines(code, price_range(950_050, 950_100, 25))
-    print_digest(code, "off increment digest", price_range(0, PRICE_LIMIT, 37))
+    print_digest(code, "digest", prices_on_tick(product))
+    print_lines(code, price_range(950_000, 950_100, 25))
+    print_digest(code, "off tick digest", price_range(0, PRICE_LIMIT, 37))
     print_lines(code, price_range(PRICE_LIMIT - 100, PRICE_LIMIT + 100, 25))
     print_lines(code, price_range(PRICE_LIMIT + 1, LARGEST_U32, 2_146_983_647))
     print_lines(code, price_range(4_294_967_200, LARGEST_U32, 25))

@@ -1,5 +1,5 @@
 #!/usr/bin/env python3
-"""Checks what document 01 promises of one contract at every price that it can have: figures, bounds, accuracy.
+"""Checks what document 01 promises of one contract at every price within the limit and on the tick: figures, bounds, accuracy.
 
   theorems.py
 """
@@ -19,7 +19,7 @@ from calculator import (
     ladder,
     ladder_bracket,
     price_range,
-    prices_on_finest,
+    prices_on_tick,
     tick_value,
     value,
     value_at,
@@ -44,7 +44,7 @@ def ladder_figure(coupon, halves):
 
 
 def check_figures():
-    """The figures of document 01 that concern one contract, some at finer increments, and the two amounts of the sheet."""
+    """The figures of document 01 that concern one contract, and the two amounts of its sheet."""
     figures = [
         (value(b"IR", 950_000), 98_782_138),
         (value(b"IR", 950_100), 98_784_544),
@@ -62,16 +62,6 @@ def check_figures():
         (value(b"XX", 1_000_000), 9_000_000),
         (value(b"IR", 950_050), Refused(7)),
         (value(b"IR", 1_000_001), Refused(6)),
-        (value(b"XT", 950_025), 10_781_498),
-        (tick_value(b"XT", 950_025), 4_084),
-        (bracket(b"XT", 950_025), 10_781_498_247),
-        (value(b"XX", 955_025), 4_674_149),
-        (tick_value(b"XX", 955_025), 3_135),
-        (bracket(b"XX", 955_025), 9_348_297_284),
-        (value(b"XT", 999_975), 15_996_713),
-        (tick_value(b"XT", 999_975), Refused(15)),
-        (value(b"XT", 950_010), Refused(7)),
-        (value(b"YT", 950_025), Refused(7)),
         (10 * (value(b"IR", 950_100) - value(b"IR", 950_000)), 24_060),
         (-4 * (value(b"IR", 950_100) - value(b"IR", 950_000)), -9_624),
         (ladder_figure(3, 6), 2 * 604),
@@ -86,7 +76,7 @@ def check_figures():
 def check_bill_forms():
     """The bill's quotient in whole numbers equals face times 365 over (365 + yield times 90 / 100)."""
     for code in (b"IR", b"BB"):
-        prices = prices_on_finest(PRODUCTS[code])
+        prices = prices_on_tick(PRODUCTS[code])
         for price in prices:
             quotient = Fraction(3_650_000_000_000_000, 36_500_000 + 9 * yield_at(price))
             require(exact_value(PRODUCTS[code].terms, price) == quotient, code, "two forms of the quotient at", price)
@@ -146,12 +136,12 @@ def check_value(code, terms, prices):
 
 
 def theorems():
-    """Checks each promise at every price of every product, and says what was compared."""
+    """Checks each promise at every price of every product within the limit and on the tick, and says what was compared."""
     check_figures()
     check_bill_forms()
     check_any_bond()
     for code, product in PRODUCTS.items():
-        prices = prices_on_finest(product)
+        prices = prices_on_tick(product)
         if isinstance(product.terms, Bond):
             check_ladder(code, product.terms, prices)
         check_value(code, product.terms, prices)

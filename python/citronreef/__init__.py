@@ -5,9 +5,9 @@ Prices are Decimal, as quoted: Decimal("95.01"). Amounts are whole cents. A call
     >>> from decimal import Decimal
     >>> value("IR", Decimal("95.01"))
     98784544
-    >>> value("IR", Decimal("100.01"))
+    >>> value("IR", Decimal("95.005"))
     Traceback (most recent call last):
-    citronreef.answers.Refusal: refused 6 at 0: a mark's price is above 100.0000
+    citronreef.answers.Refusal: refused 7 at 0: a mark's price is not a multiple of its product's tick
 
 The answers come from the proved library, libcitronreef.so: the one that CITRONREEF_LIBRARY names; or in the repository that of
 target/lib; or that of this package's own install; or where there is none of these, the one that the loader finds.
@@ -75,16 +75,12 @@ def _quoted(call: str, code: str, price: Decimal) -> int:
 
 
 def value(code: str, price: Decimal) -> int:
-    """The value of one contract, in cents. The price is a multiple of the product's finest increment."""
+    """The value of one contract, in cents."""
     return _quoted("value", code, price)
 
 
 def tick_value(code: str, price: Decimal) -> int:
-    """The value at the price one tick higher, minus the value, in cents. It is a whole tick also from a price between two ticks.
-
-    >>> tick_value("XT", Decimal("95.0025"))
-    4084
-    """
+    """The value at the price one tick higher, minus the value, in cents."""
     return _quoted("tick_value", code, price)
 
 
@@ -113,7 +109,7 @@ def settle(file: Bytes) -> Settled:
 
 
 def mark(file: Bytes, index: int) -> MarkPrices:
-    """The prices of the mark with this index, from 0, of a file that passes checks 1 to 13, 16 and 18.
+    """The prices of the mark with this index, from 0, of a file that passes checks 1 to 13 and 16.
 
     A mark that the file does not have is refused with 12 at the index asked for.
     """
@@ -131,7 +127,7 @@ def mark(file: Bytes, index: int) -> MarkPrices:
 
 
 def find(file: Bytes, check: int) -> Optional[int]:
-    """The first record where the condition of a check, 1 to 13, 16 or 18, holds; None where it holds at nothing that is looked at.
+    """The first record where the condition of a check, 1 to 13 or 16, holds; None where it holds at nothing that is looked at.
 
     Each condition is looked for by itself, so that one may be found that vanishes once an earlier one is mended. Not all of every
     file is looked at: of one that is shorter than 24 bytes only check 1, and of one with a count above its limit only 1 to 3.
@@ -153,18 +149,17 @@ def sheet(file: Bytes) -> str:
 
 
 def make(marks: Bytes, corrections: Bytes, positions: Bytes) -> bytes:
-    """Makes a day file of three lists, each the bytes of its records, 16 for a mark and 12 for a correction or a position.
+    """Makes a day file of three lists, each the bytes of its records, 12 for each.
 
-    The lists of a file that passes checks 1 to 13, 16 and 18 make that file. A list with more records than a file may have is
-    refused with 2, then one that is not whole records with 3, and then 4, 5, 18, 6 to 13 and 16 look at the records as at those of
-    a file.
+    The lists of a file that passes checks 1 to 13 and 16 make that file. A list with more records than a file may have is refused
+    with 2, then one that is not whole records with 3, and then 4 to 13 and 16 look at the records as at those of a file.
 
     >>> import struct
-    >>> marks = struct.pack("<2sBBIIHH", b"IR", 3, 27, 950_000, 950_100, 100, 0)  # 100: the day's increment, in units
+    >>> marks = struct.pack("<2sBBII", b"IR", 3, 27, 950_000, 950_100)
     >>> positions = struct.pack("<IIi", 11, 0, 10) + struct.pack("<IIi", 12, 0, -4)
     >>> file = make(marks, b"", positions)
     >>> len(file), settle(file).amounts_cents
-    (64, (24060, -9624))
+    (60, (24060, -9624))
     >>> make(b"", b"", positions)
     Traceback (most recent call last):
     citronreef.answers.Refusal: refused 12 at 0: a position names no mark

@@ -13,10 +13,10 @@ WORDS = (
     "a mark's code is not in the product table",
     "a mark's month is not one of its product's months, or its year is above 99",
     "a mark's price is above 100.0000",
-    "a mark's previous price is not a multiple of its product's finest increment, or today's of the day's increment",
+    "a mark's price is not a multiple of its product's tick",
     "two marks agree in code, month and year",
     "a correction names no mark",
-    "a correction's price is above 100.0000, or is not a multiple of its mark's increment",
+    "a correction's price is above 100.0000, or is not a multiple of its mark's tick",
     "two corrections agree in number but differ in mark or price",
     "a position names no mark",
     "a position's lots are 0, below -1,000,000 or above 1,000,000",
@@ -24,7 +24,6 @@ WORDS = (
     "a tick value is asked for where the price one tick higher is above 100.0000",
     "two positions agree in account and mark",
     "the lent buffer is shorter than the file",
-    "a mark's increment is not allowed for its product, or its last two bytes are not zero",
 )
 
 

@@ -9,7 +9,7 @@ from pathlib import Path
 VERSION = "0.1.0"
 MAX_POSITIONS = 4_096
 SHEET_SIZE = 192_602
-FILE_SIZE = 59_416
+FILE_SIZE = 58_392
 
 
 class _Quote(ctypes.Structure):

@@ -7,13 +7,12 @@
 #include <string.h>
 
 static const uint8_t nothing[24] = {0, 0, 0, 0, 24, 0, 0, 0, 0, 0, 0, 0, 24, 0, 0, 0, 0, 0, 0, 0, 24, 0, 0, 0};
-enum { MARK = 16, CORRECTION = 12, POSITION = 12 }; /* bytes of a record */
-static const uint8_t one_position[52] = {
-    1, 0, 0, 0, 24, 0, 0, 0, 0, 0, 0, 0, 40, 0, 0, 0, 1, 0, 0, 0, 40, 0, 0, 0, /* header: 1 24 0 40 1 40 */
-    'I', 'R', 3, 18, 0xF0, 0x7E, 0x0E, 0, 0x54, 0x7F, 0x0E, 0, 100, 0, 0, 0,   /* IR 3 18, from 950,000 to 950,100 by 100 */
+static const uint8_t one_position[48] = {
+    1, 0, 0, 0, 24, 0, 0, 0, 0, 0, 0, 0, 36, 0, 0, 0, 1, 0, 0, 0, 36, 0, 0, 0, /* header: 1 24 0 36 1 36 */
+    'I', 'R', 3, 18, 0xF0, 0x7E, 0x0E, 0, 0x54, 0x7F, 0x0E, 0,                 /* IR 3 18, from 950,000 to 950,100 */
     11, 0, 0, 0, 0, 0, 0, 0, 0xFC, 0xFF, 0xFF, 0xFF,                           /* account 11, mark 0, -4 lots */
 };
-static const uint8_t *const its_mark = one_position + 24, *const its_position = one_position + 24 + MARK;
+static const uint8_t *const its_mark = one_position + 24, *const its_position = one_position + 36;
 static const char one_line[] = "11 IR 3 18 -9624 AUD\ntotal AUD -9624\ntotal NZD 0\nresent 0\n";
 static uint8_t out[CITRONREEF_SHEET_SIZE + 8];
 
@@ -31,7 +30,7 @@ static void null_with_length_0(void)
     assert(citronreef_sheet(one_position, sizeof one_position, NULL, 0, out, sizeof out) == strlen("refused 14 at 0\n"));
     assert(memcmp(out, "refused 14 at 0\n", strlen("refused 14 at 0\n")) == 0);
     assert(citronreef_make(NULL, 0, NULL, 0, NULL, 0, NULL, 0).refused == 17);
-    assert(citronreef_make(its_mark, MARK, NULL, 0, its_position, POSITION, NULL, 0).refused == 17);
+    assert(citronreef_make(its_mark, 12, NULL, 0, its_position, 12, NULL, 0).refused == 17);
     assert(citronreef_make(NULL, 0, NULL, 0, NULL, 0, out, sizeof out).length == sizeof nothing);
     assert(memcmp(out, nothing, sizeof nothing) == 0);
 }
@@ -54,35 +53,29 @@ static void at_any_byte(void)
 static void made_at_any_byte(void)
 {
     enum { LENGTH = sizeof one_position };
-    _Alignas(16) uint8_t lists[MARK + POSITION + 8], room[LENGTH + 16], expected[sizeof room];
+    _Alignas(16) uint8_t lists[2 * 12 + 8], room[LENGTH + 16], expected[sizeof room];
     for (size_t at = 0; at < 8; at++)
         for (size_t from = 0; from < 8; from++) {
-            uint8_t *marks = lists + from, *positions = lists + from + MARK;
-            memcpy(marks, its_mark, MARK + POSITION);
+            memcpy(lists + from, its_mark, 2 * 12);
             memset(room, 0xA5, sizeof room);
             memset(expected, 0xA5, sizeof expected);
-            assert(citronreef_make(marks, MARK, NULL, 0, positions, POSITION, room + at, LENGTH - 1).refused == 17);
+            assert(citronreef_make(lists + from, 12, NULL, 0, lists + from + 12, 12, room + at, LENGTH - 1).refused == 17);
             assert(memcmp(room, expected, sizeof room) == 0);
             memcpy(expected + at, one_position, LENGTH);
-            assert(citronreef_make(marks, MARK, NULL, 0, positions, POSITION, room + at, LENGTH + 8).length == LENGTH);
+            assert(citronreef_make(lists + from, 12, NULL, 0, lists + from + 12, 12, room + at, LENGTH + 8).length == LENGTH);
             assert(memcmp(room, expected, sizeof room) == 0);
         }
 }
 
-/*
- * One record that is a mark, IR 3 18 from 0 to 950,100 by 100. Its first 12 bytes are a correction of mark 0 too, and a position in
- * it, of 950,100 lots.
- */
+/* One record that is a mark, IR 3 18 from 0 to 950,100; a correction of mark 0; and a position in it, of 950,100 lots. */
 static void made_of_one_list(void)
 {
-    enum { LENGTH = 24 + MARK + CORRECTION + POSITION };
-    static const uint8_t record[MARK] = {'I', 'R', 3, 18, 0, 0, 0, 0, 0x54, 0x7F, 0x0E, 0, 100, 0, 0, 0};
+    static const uint8_t record[12] = {'I', 'R', 3, 18, 0, 0, 0, 0, 0x54, 0x7F, 0x0E, 0};
     int64_t amount;
-    assert(citronreef_make(record, MARK, record, CORRECTION, record, POSITION, out, sizeof out).length == LENGTH);
-    assert(memcmp(out + 24, record, MARK) == 0);
-    assert(memcmp(out + 24 + MARK, record, CORRECTION) == 0);
-    assert(memcmp(out + 24 + MARK + CORRECTION, record, POSITION) == 0);
-    assert(citronreef_settle(out, LENGTH, &amount, 1).positions == 1);
+    assert(citronreef_make(record, 12, record, 12, record, 12, out, sizeof out).length == 60);
+    for (size_t at = 24; at < 60; at += 12)
+        assert(memcmp(out + at, record, 12) == 0);
+    assert(citronreef_settle(out, 60, &amount, 1).positions == 1);
 }
 
 int main(void)

@@ -3,9 +3,9 @@
 #include <inttypes.h>
 #include <stdio.h>
 
-static uint8_t marks[16], corrections[24], positions[24], file[CITRONREEF_FILE_SIZE];
+static uint8_t marks[12], corrections[24], positions[24], file[CITRONREEF_FILE_SIZE];
 
-/* Puts the three numbers of a record's first 12 bytes, each with its lowest byte first. */
+/* Puts the three numbers of a record, each with its lowest byte first. */
 static void put(uint8_t *record, uint32_t first, uint32_t second, uint32_t third)
 {
     const uint32_t numbers[3] = {first, second, third};
@@ -16,7 +16,6 @@ static void put(uint8_t *record, uint32_t first, uint32_t second, uint32_t third
 int main(void)
 {
     put(marks, 'I' | 'R' << 8 | 3 << 16 | 18 << 24, 950000, 950200); /* code, month and year are one byte each */
-    marks[12] = 100;                                                 /* the day's increment; what follows is 0 */
     put(corrections, 7, 0, 950100);
     put(corrections + 12, 7, 0, 950100);
     put(positions, 11, 0, 10);

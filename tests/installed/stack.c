@@ -9,9 +9,8 @@
 #include <stdlib.h>
 
 enum { MARKS = CITRONREEF_MAX_MARKS, CORRECTIONS = CITRONREEF_MAX_CORRECTIONS, POSITIONS = CITRONREEF_MAX_POSITIONS };
-enum { MARK = 16, CORRECTION = 12, POSITION = 12 }; /* bytes of a record */
-enum { CORRECTIONS_AT = 24 + MARK * MARKS, POSITIONS_AT = CORRECTIONS_AT + CORRECTION * CORRECTIONS };
-enum { FILE_SIZE = POSITIONS_AT + POSITION * POSITIONS, STACK = 256 << 10, PAINT = 0xA5 };
+enum { CORRECTIONS_AT = 24 + 12 * MARKS, POSITIONS_AT = CORRECTIONS_AT + 12 * CORRECTIONS };
+enum { FILE_SIZE = POSITIONS_AT + 12 * POSITIONS, STACK = 256 << 10, PAINT = 0xA5 };
 _Static_assert(FILE_SIZE == CITRONREEF_FILE_SIZE, "the length of a full file");
 
 static uint8_t *stack, file[FILE_SIZE], out[CITRONREEF_SHEET_SIZE];
@@ -28,7 +27,7 @@ static void sheet(void) { citronreef_sheet(file, length, amounts, POSITIONS, out
 
 static void find(void)
 {
-    for (uint32_t check = 0; check <= 18; check++)
+    for (uint32_t check = 0; check <= 16; check++)
         citronreef_find(file, length, check);
 }
 
@@ -36,8 +35,7 @@ static void find(void)
 static uint64_t made(size_t more, size_t room)
 {
     const uint8_t *marks = file + 24, *corrections = file + CORRECTIONS_AT, *positions = file + POSITIONS_AT;
-    return citronreef_make(marks, CORRECTIONS_AT - 24 + more, corrections, POSITIONS_AT - CORRECTIONS_AT, positions,
-                           FILE_SIZE - POSITIONS_AT, out, room).refused;
+    return citronreef_make(marks, 12 * MARKS + more, corrections, 12 * CORRECTIONS, positions, 12 * POSITIONS, out, room).refused;
 }
 
 static void make(void)
@@ -45,7 +43,7 @@ static void make(void)
     made(0, FILE_SIZE);
     made(0, FILE_SIZE - 1);
     made(1, FILE_SIZE);
-    made(MARK, FILE_SIZE);
+    made(12, FILE_SIZE);
 }
 
 static const struct { const char *name; void (*call)(void); } calls[] = {
@@ -94,7 +92,7 @@ static void put(size_t at, uint32_t number)
         file[at + k] = number >> 8 * k;
 }
 
-/* A record of three numbers, or the first three of one; answers where it ends. */
+/* A record of three numbers; answers where the next one starts. */
 static size_t record(size_t at, uint32_t first, uint32_t second, uint32_t third)
 {
     put(at, first);
@@ -110,13 +108,6 @@ static uint32_t contract(uint32_t k)
     return code[0] | code[1] << 8 | (3 + k / 5 % 4 * 3) << 16 | k / 20 << 24;
 }
 
-/* The finest increment of a contract's product. */
-static uint32_t increment(uint32_t k)
-{
-    static const uint32_t finest[] = {100, 100, 50, 25, 25};
-    return finest[k % 5];
-}
-
 /* A file with as many records as the limits allow. */
 static void full_file(void)
 {
@@ -124,11 +115,8 @@ static void full_file(void)
     size_t at = 24;
     for (int k = 0; k < 6; k++)
         put(4 * k, numbers[k]);
-    for (uint32_t k = 0; k < MARKS; k++) {
+    for (uint32_t k = 0; k < MARKS; k++)
         at = record(at, contract(k), 950000 + 100 * k, 960000 - 100 * k);
-        put(at, increment(k));
-        at += MARK - 12;
-    }
     for (uint32_t k = 0; k < CORRECTIONS; k++)
         at = record(at, k * 0x01000193, k % MARKS, 955000 - 100 * (k % MARKS));
     for (uint32_t k = 0; k < POSITIONS; k++)
@@ -149,20 +137,17 @@ static void crowd(uint32_t from)
         do
             account = (number++ - mark * upper) * inverse;
         while (account * upper + mark * lower >= 1 << 26);
-        put(POSITIONS_AT + POSITION * k, account);
+        put(POSITIONS_AT + 12 * k, account);
     }
 }
-
-/* Where the last record of each section starts. The last mark is of IR. */
-enum { LAST_MARK = CORRECTIONS_AT - MARK, LAST_CORRECTION = POSITIONS_AT - CORRECTION, LAST_POSITION = FILE_SIZE - POSITION };
 
 /* The check that each fault breaks, and the number that is put at a place of the full file to break it. */
 static const struct { uint64_t check; size_t at; uint32_t number; } faults[] = {
     {0, 4, 24}, {2, 0, MARKS + 1}, {2, 8, UINT32_MAX}, {2, 16, POSITIONS + 1}, {3, 4, 25}, {3, 20, 0},
-    {4, LAST_MARK, 0}, {5, LAST_MARK, 0xFF045249}, {18, LAST_MARK + 12, 50}, {18, LAST_MARK + 12, 100 | 1 << 24},
-    {6, LAST_MARK + 4, UINT32_MAX}, {7, LAST_MARK + 8, 950001}, {8, LAST_MARK, 0x00035249},
-    {9, LAST_CORRECTION + 4, MARKS}, {10, LAST_CORRECTION + 8, 950001}, {11, LAST_CORRECTION, 0},
-    {12, LAST_POSITION + 4, MARKS}, {13, LAST_POSITION + 8, 0}, {16, LAST_POSITION, MARKS - 1},
+    {4, CORRECTIONS_AT - 12, 0}, {5, CORRECTIONS_AT - 12, 0xFF045249}, {6, CORRECTIONS_AT - 8, UINT32_MAX},
+    {7, CORRECTIONS_AT - 4, 950001}, {8, CORRECTIONS_AT - 12, 0x00035249}, {9, POSITIONS_AT - 8, MARKS},
+    {10, POSITIONS_AT - 4, 950001}, {11, POSITIONS_AT - 12, 0}, {12, FILE_SIZE - 8, MARKS}, {13, FILE_SIZE - 4, 0},
+    {16, FILE_SIZE - 12, MARKS - 1},
 };
 
 /* Whether the file is refused with this check, or with none where it is 0, and so are its lists, which have no header to refuse. */
@@ -171,7 +156,7 @@ static int is_refused(uint64_t check)
     uint64_t of_lists = check < 4 ? 0 : check;
     return citronreef_settle(file, length, amounts, POSITIONS).refused == check
         && made(0, FILE_SIZE) == of_lists && made(0, FILE_SIZE - 1) == (of_lists ? of_lists : 17)
-        && made(1, FILE_SIZE) == 3 && made(MARK, FILE_SIZE) == 2;
+        && made(1, FILE_SIZE) == 3 && made(12, FILE_SIZE) == 2;
 }
 
 /* Measures the calls on the file, which this check must refuse, or none where it is 0. */

@@ -117,12 +117,9 @@ fn layout() {
     case(b"one_byte_long");
     case(b"one_position_less_counted");
     case(b"count_before_offset");
-    case(b"marks_of_12_bytes");
-    case(b"four_marks_of_12_bytes");
-    case(b"marks_of_12_bytes_with_offsets_of_16");
 }
 
-// Checks 4 to 8 and 18.
+// Checks 4 to 8.
 fn marks() {
     case(b"unlisted_code");
     case(b"lower_case_code");
@@ -132,16 +129,6 @@ fn marks() {
     case(b"month_of_a_cash_rate");
     case(b"year_99");
     case(b"year_100");
-    case(b"finest_of_another_product");
-    case(b"increment_below_the_tick");
-    case(b"increment_above_the_tick");
-    case(b"increment_between_tick_and_finest");
-    case(b"increment_0");
-    case(b"increment_with_a_high_byte");
-    case(b"bytes_of_the_increment_exchanged");
-    case(b"largest_increment");
-    case(b"byte_14_of_a_mark");
-    case(b"byte_15_of_a_mark");
     case(b"price_0_to_limit");
     case(b"previous_price_above_limit");
     case(b"today_price_above_limit");
@@ -149,11 +136,6 @@ fn marks() {
     case(b"off_tick_previous_price");
     case(b"off_tick_today_price");
     case(b"tick_of_50");
-    case(b"quoted_in_25");
-    case(b"previous_price_finer_than_the_day");
-    case(b"previous_price_off_the_finest");
-    case(b"today_price_finer_than_the_day");
-    case(b"today_price_off_the_finest");
     case(b"repeated_mark");
     case(b"two_repeated_marks");
     case(b"marks_that_agree_in_two_fields");
@@ -167,9 +149,6 @@ fn corrections() {
     case(b"correction_above_limit");
     case(b"off_tick_correction");
     case(b"tick_of_the_named_mark");
-    case(b"correction_on_the_finest");
-    case(b"correction_finer_than_the_day");
-    case(b"correction_off_the_finest");
     case(b"off_tick_correction_overridden");
     case(b"same_number_other_price");
     case(b"same_number_other_mark");
@@ -208,9 +187,6 @@ fn positions() {
 // Two faults: the check that stands first in the order decides.
 fn order() {
     case(b"code_before_month");
-    case(b"month_before_increment");
-    case(b"increment_before_limit");
-    case(b"last_bytes_before_tick");
     case(b"year_before_limit");
     case(b"limit_before_tick");
     case(b"limit_before_tick_in_one_price");
@@ -227,13 +203,12 @@ fn order() {
     case(b"offset_before_code");
 }
 
-// The case of document 01, every product, every increment, resent corrections, a full file.
+// The case of document 01, every product, resent corrections, a full file.
 fn accepted() {
     case(b"case_of_document_01");
     case(b"marks_alone");
     case(b"every_product");
     case(b"every_product_at_yield_0");
-    case(b"every_increment");
     case(b"equal_prices");
     case(b"corrected_to_previous_price");
     case(b"first_list");

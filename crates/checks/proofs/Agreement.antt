@@ -5,14 +5,15 @@ use Prim.Native.Nat.{◌∣◌}
 use native.Mathlib.Nat.{mod-one}
 use lib.Signed.{lt_z}
 use Rattle.numbers.specs.Integers.{is_zero}
-use Rattle.numbers.proofs.Truth.{Tells, not_both, tells_as, tells_or, tells_and, tells_not, tells_lt, tells_le, tells_above, tells_eq, tells_less, tells_off, tells_some, or_three, or_three_back}
+use Rattle.numbers.proofs.Truth.{Tells, not_both, tells_as, tells_or, tells_and, tells_not, tells_lt, tells_le, tells_eq, tells_less, tells_divides, tells_some, or_three, or_three_back}
 use Rattle.numbers.specs.Checks.{only, ◌before◌}
 use Rattle.numbers.proofs.Checks.{Agree, agree_only, agree_before}
-use Rattle.products.specs.Products.{price_limit, months_of, Unlisted}
+use Rattle.products.specs.Products.{price_limit, find, months_of, Unlisted}
 use Rattle.products.specs.declared.table.Code.{Code}
+use Rattle.products.specs.declared.table.Product.{Product}
+use Rattle.products.specs.declared.table.NamedProduct.TheVariants.{Named}
 use Rattle.products.proofs.Finding.{tells_unlisted, tells_product}
 use Rattle.products.proofs.Months.{month_exactly}
-use Rattle.products.proofs.Listing.{tells_allowed}
 use Rattle.dayfile.specs.Limits.{Limits, year_limit, lots_limit}
 use Rattle.dayfile.specs.Records.{Lists, mark_at, correction_at, position_at}
 use Rattle.dayfile.specs.Layout.{lists_of_file}
@@ -21,9 +22,9 @@ use Rattle.dayfile.specs.declared.records.Mark.{Mark}
 use Rattle.dayfile.specs.declared.records.Correction.{Correction}
 use Rattle.dayfile.specs.declared.records.Position.{Position}
 use Rattle.dayfile.proofs.Refusals.{header_agrees}
-use Rattle.checks.specs.Table.{above_limit, listed, listed_in, code_has_month, has_month_in, code_allows, allowed_in, finest_of, finest_in}
-use Rattle.checks.specs.Marks.{HasMonth, Allows, OffFinest, off_finest, OffIncrement, off_increment, no_mark, SameContract, same_contract, contract_pair}
-use Rattle.checks.specs.Marks.{MarkCheck, MarkCode, MarkDate, MarkIncrement, MarkLimit, MarkMultiple, MarkRepeated, mark_checks, too_many_marks, mark_list_checks}
+use Rattle.checks.specs.Table.{above_limit, listed, listed_in, code_has_month, has_month_in, tick_of, tick_in}
+use Rattle.checks.specs.Marks.{HasMonth, OffTick, off_tick, SameContract, same_contract, contract_pair}
+use Rattle.checks.specs.Marks.{MarkCheck, MarkCode, MarkDate, MarkLimit, MarkTick, MarkRepeated, mark_checks, too_many_marks, mark_list_checks}
 use Rattle.checks.specs.Corrections.{Clash, clashing, clash_pair, CorrectionCheck, CorrectionMark, CorrectionPrice, CorrectionClash, correction_checks, too_many_corrections, correction_list_checks}
 use Rattle.checks.specs.Positions.{bad_lots, SameHolding, same_holding, holding_pair, PositionCheck, PositionMark, PositionLots, PositionRepeated}
 use Rattle.checks.specs.Positions.{position_checks, too_many_positions, position_list_checks}
@@ -35,10 +36,10 @@ tells_missing : (a : Code) → Tells (not (listed a)) (Unlisted a)
 unfolding listed
 tells_missing a = tells_unlisted a (λ f. not (listed_in f)) (λ product. refl) refl
 
-tells_allows : (a : Code) (i : ℕ) → Tells (code_allows a i) (Allows a i)
-unfolding code_allows
-tells_allows a i =
-    tells_product a (λ f. allowed_in f i) {A = λ product. (i ≡ product.tick) ⊎ (i ≡ product.finest)} (λ product. tells_allowed product i) refl
+tells_off_tick : (a : Code) (p : ℕ) → Tells (not (eqb (p % tick_of a) 0)) ((product : Product) × (find a ≡ Named product) × ¬ (product.tick ∣ p))
+unfolding tick_of
+tells_off_tick a p =
+    tells_product a (λ f. not (eqb (p % tick_in f) 0)) {A = λ product. ¬ (product.tick ∣ p)} (λ product. tells_not (eqb (p % product.tick) 0) (tells_divides product.tick p)) (rw (mod-one p))
 
 tells_has_month : (a : Code) (m : ℕ) → Tells (code_has_month a m) (HasMonth a m)
 unfolding code_has_month
@@ -49,13 +50,8 @@ tells_has_month a m =
 above : (p : ℕ) → Tells (above_limit p) (price_limit < p)
 above p = tells_lt price_limit p
 
-off_finest_lem : (m : Mark) (p : ℕ) → Tells (off_finest m p) (OffFinest m p)
-unfolding finest_of
-off_finest_lem m p =
-    tells_product m.code (λ f. not (eqb (p % finest_in f) 0)) {A = λ product. ¬ (product.finest ∣ p)} (λ product. tells_off product.finest p) (rw (mod-one p))
-
-off_increment_lem : (m : Mark) (p : ℕ) → Tells (off_increment m p) (OffIncrement m p)
-off_increment_lem m p = tells_off m.increment p
+off_tick_lem : (m : Mark) (p : ℕ) → Tells (off_tick m p) (OffTick m p)
+off_tick_lem m p = tells_off_tick m.code p
 
 -- ---- two records
 
@@ -106,29 +102,23 @@ marks_agree ms MarkCode i = tells_missing (mark_at ms i).code
 marks_agree ms MarkDate i =
     let m = mark_at ms i in
     tells_or (not (code_has_month m.code m.month)) (ltb year_limit m.year) (tells_not _ (tells_has_month m.code m.month)) (tells_lt year_limit m.year)
-marks_agree ms MarkIncrement i =
-    let m = mark_at ms i in
-    tells_or (not (code_allows m.code m.increment)) (not (eqb m.padding 0)) (tells_not _ (tells_allows m.code m.increment)) (tells_not _ (tells_eq m.padding 0))
 marks_agree ms MarkLimit i = let m = mark_at ms i in tells_or (above_limit m.previous) (above_limit m.today) (above m.previous) (above m.today)
-marks_agree ms MarkMultiple i =
-    let m = mark_at ms i in tells_or (off_finest m m.previous) (off_increment m m.today) (off_finest_lem m m.previous) (off_increment_lem m m.today)
+marks_agree ms MarkTick i = let m = mark_at ms i in tells_or (off_tick m m.previous) (off_tick m m.today) (off_tick_lem m m.previous) (off_tick_lem m m.today)
 marks_agree ms MarkRepeated i = tells_some (contract_pair ms i) i (λ j. same_contract_lem (mark_at ms i) (mark_at ms j))
 
 pub of_marks : (ms : List Mark) (c : MarkCheck) → Memᴰ c (mark_checks ms).order
 of_marks ms MarkCode = here
 of_marks ms MarkDate = next here
-of_marks ms MarkIncrement = next (next here)
-of_marks ms MarkLimit = next (next (next here))
-of_marks ms MarkMultiple = next (next (next (next here)))
-of_marks ms MarkRepeated = next (next (next (next (next here))))
+of_marks ms MarkLimit = next (next here)
+of_marks ms MarkTick = next (next (next here))
+of_marks ms MarkRepeated = next (next (next (next here)))
 
 pub corrections_agree : (ms : List Mark) (cs : List Correction) → Agree (correction_checks ms cs)
 corrections_agree ms cs CorrectionMark i = tells_le (length ms) (correction_at cs i).mark
 corrections_agree ms cs CorrectionPrice i =
     let c = correction_at cs i in
     let m = mark_at ms c.mark in
-    tells_or (above_limit c.price) _ (above c.price)
-    (tells_and (not (no_mark ms c.mark)) (off_increment m c.price) (tells_above (length ms) c.mark) (off_increment_lem m c.price))
+    tells_or (above_limit c.price) (off_tick m c.price) (above c.price) (off_tick_lem m c.price)
 corrections_agree ms cs CorrectionClash i = tells_some (clash_pair cs i) i (λ j. clash (correction_at cs i) (correction_at cs j))
 
 pub of_corrections : (ms : List Mark) (cs : List Correction) (c : CorrectionCheck) → Memᴰ c (correction_checks ms cs).order

@@ -15,7 +15,7 @@ use Rattle.dayfile.specs.Records.{mark_at, correction_at, position_at}
 use Rattle.dayfile.specs.declared.records.Mark.{Mark}
 use Rattle.dayfile.specs.declared.records.Correction.{Correction}
 use Rattle.dayfile.specs.declared.records.Position.{Position}
-use Rattle.checks.specs.Marks.{contract_pair, mark_check, MarkCheck, MarkCode, MarkDate, MarkIncrement, MarkLimit, MarkMultiple, MarkRepeated, mark_checks}
+use Rattle.checks.specs.Marks.{contract_pair, mark_check, MarkCheck, MarkCode, MarkDate, MarkLimit, MarkTick, MarkRepeated, mark_checks}
 use Rattle.checks.specs.Corrections.{clash_pair, correction_check, CorrectionCheck, CorrectionMark, CorrectionPrice, CorrectionClash, correction_checks}
 use Rattle.checks.specs.Corrections.{too_many_corrections, corrections_judged, resent_of}
 use Rattle.checks.specs.Positions.{holding_pair, position_check, PositionCheck, PositionMark, PositionLots, PositionRepeated, position_checks}
@@ -32,7 +32,7 @@ use Rattle.checks.specs.declared.positions.PositionFindings.{PositionFindings}
 
 -- ---- one record more
 
-pub no_marks : (ms : List Mark) → record { code = Nothing; date = Nothing; increment = Nothing; high = Nothing; off = Nothing } ≡ mark_findings ms 0
+pub no_marks : (ms : List Mark) → record { code = Nothing; date = Nothing; high = Nothing; off = Nothing } ≡ mark_findings ms 0
 unfolding first
 no_marks ms = refl
 
@@ -44,18 +44,17 @@ pub no_positions : (ms : List Mark) (ps : List Position) → record { missing = 
 unfolding first
 no_positions ms ps = refl
 
-findings_by : {a a' b b' c c' d d' e e' : Found} → a ≡ a' → b ≡ b' → c ≡ c' → d ≡ d' → e ≡ e'
-    → ◌≡◌ {A = MarkFindings} (record { code = a; date = b; increment = c; high = d; off = e }) (record { code = a'; date = b'; increment = c'; high = d'; off = e' })
-findings_by p q r s t = cc
+findings_by : {a a' b b' c c' d d' : Found} → a ≡ a' → b ≡ b' → c ≡ c' → d ≡ d'
+    → ◌≡◌ {A = MarkFindings} (record { code = a; date = b; high = c; off = d }) (record { code = a'; date = b'; high = c'; off = d' })
+findings_by p q r s = cc
 
 pub mark-more : (ms : List Mark) (i : ℕ) {f r : MarkFindings} {faults : MarkFaults} → f ≡ mark_findings ms i → faults ≡ mark_faults (mark_at ms i) → WithMark f faults i r → r ≡ mark_findings ms (i + 1)
 mark-more ms i p q w =
     findings_by
     (first_next (mark_check ms MarkCode).test i (ap (λ (f : MarkFindings). f.code) p) (ap (λ (faults : MarkFaults). faults.code) q) w.code)
     (first_next (mark_check ms MarkDate).test i (ap (λ (f : MarkFindings). f.date) p) (ap (λ (faults : MarkFaults). faults.date) q) w.date)
-    (first_next (mark_check ms MarkIncrement).test i (ap (λ (f : MarkFindings). f.increment) p) (ap (λ (faults : MarkFaults). faults.increment) q) w.increment)
     (first_next (mark_check ms MarkLimit).test i (ap (λ (f : MarkFindings). f.high) p) (ap (λ (faults : MarkFaults). faults.high) q) w.high)
-    (first_next (mark_check ms MarkMultiple).test i (ap (λ (f : MarkFindings). f.off) p) (ap (λ (faults : MarkFaults). faults.off) q) w.off)
+    (first_next (mark_check ms MarkTick).test i (ap (λ (f : MarkFindings). f.off) p) (ap (λ (faults : MarkFaults). faults.off) q) w.off)
 
 corrections_by : {a a' b b' : Found} → a ≡ a' → b ≡ b' → ◌≡◌ {A = CorrectionFindings} (record { missing = a; price = b }) (record { missing = a'; price = b' })
 corrections_by p q = cc
@@ -94,32 +93,29 @@ positions_decided ms ps w p q e = e ∙ rw (p, q) (decision_by_steps (position_c
 -- ---- nothing is wrong
 
 module _ (ms : List Mark) (none : some_mark_fault ms ≡ false) where
-  -- no mark has any of the five faults
-  one_by_one : (i : ℕ) → i < length ms
-      → let f = mark_faults (mark_at ms i) in
-      (f.code ≡ false) × (f.date ≡ false) × (f.increment ≡ false) × (f.high ≡ false) × (f.off ≡ false)
-  one_by_one i h =
-      let f = mark_faults (mark_at ms i) in
-      let clear = some_clear (λ i. any_mark_fault (mark_faults (mark_at ms i))) (length ms) i none h in
-      let four = or_left (f.code || f.date || f.increment || f.high) f.off clear in
-      let three = or_left (f.code || f.date || f.increment) f.high four in
-      let two = or_left (f.code || f.date) f.increment three in (
-        or_left f.code f.date two,
-        or_right f.code f.date two,
-        or_right (f.code || f.date) f.increment three,
-        or_right (f.code || f.date || f.increment) f.high four,
-        or_right (f.code || f.date || f.increment || f.high) f.off clear,
-      )
+  mark_clear : (i : ℕ) → i < length ms → any_mark_fault (mark_faults (mark_at ms i)) ≡ false
+  mark_clear i h = some_clear (λ i. any_mark_fault (mark_faults (mark_at ms i))) (length ms) i none h
 
   pub marks_clear : (w : Wanted) → first (repeating (contract_pair ms)) (length ms) ≡ Nothing → decision_for (mark_checks ms) w ≡ Unmet
   marks_clear w alone = unmet_for (mark_checks ms) w (λ c m. clear c)
     where
       clear : (c : MarkCheck) → finding_of (mark_checks ms) c ≡ Nothing
-      clear MarkCode = clear_first _ _ (λ i h. (one_by_one i h).0)
-      clear MarkDate = clear_first _ _ (λ i h. (one_by_one i h).1)
-      clear MarkIncrement = clear_first _ _ (λ i h. (one_by_one i h).2)
-      clear MarkLimit = clear_first _ _ (λ i h. (one_by_one i h).3)
-      clear MarkMultiple = clear_first _ _ (λ i h. (one_by_one i h).4)
+      clear MarkCode =
+          clear_first _ _
+          (λ i h.
+          let faults = mark_faults (mark_at ms i) in
+          or_left faults.code _ (or_left (faults.code || faults.date) _ (or_left (faults.code || faults.date || faults.high) _ (mark_clear i h))))
+      clear MarkDate =
+          clear_first _ _
+          (λ i h.
+          let faults = mark_faults (mark_at ms i) in
+          or_right faults.code _ (or_left (faults.code || faults.date) _ (or_left (faults.code || faults.date || faults.high) _ (mark_clear i h))))
+      clear MarkLimit =
+          clear_first _ _
+          (λ i h. let faults = mark_faults (mark_at ms i) in or_right (faults.code || faults.date) _ (or_left (faults.code || faults.date || faults.high) _ (mark_clear i h)))
+      clear MarkTick =
+          clear_first _ _
+          (λ i h. let faults = mark_faults (mark_at ms i) in or_right (faults.code || faults.date || faults.high) _ (mark_clear i h))
       clear MarkRepeated = alone
 
 module _ (ms : List Mark) (cs : List Correction) (none : some_correction_fault ms cs ≡ false) where

@@ -88,7 +88,7 @@ module _ (l : Limits) (ms : List Mark) where
   pub marks-passed : (decision_of (mark_list_checks l ms) ≡ Unmet) ↔ Passes (mark_list_checks l ms)
   marks-passed = passes_exactly (mark_list_checks l ms) (mark_lists_agree l ms)
 
-  -- a list within the limit goes by checks 4 to 8 and 18
+  -- a list within the limit goes by checks 4 to 8
   marks-within : length ms ≤ l.marks → decision_of (mark_list_checks l ms) ≡ decision_of (mark_checks ms)
   marks-within h = sym (one_passes (too_many_marks l ms) (mark_checks ms) (le-ltb l.marks (length ms) h) refl)
 
@@ -134,7 +134,7 @@ module _ (l : Limits) (ls : Lists) where
   pub records-passed : (decision_of (list_checks l ls) ≡ Unmet) ↔ Passes (list_checks l ls)
   records-passed = passes_exactly (list_checks l ls) (lists_agree l ls)
 
-  -- lists within the limits go by checks 4 to 13, 16 and 18
+  -- lists within the limits go by checks 4 to 13 and 16
   pub records-within : (too_many_records l ls).test 0 ≡ false → decision_of (list_checks l ls) ≡ decision_of (record_checks ls)
   records-within few = sym (one_passes (too_many_records l ls) (record_checks ls) few refl)
 

@@ -8,17 +8,14 @@ use Rattle.dayfile.specs.Records.{mark_at, correction_at}
 use Rattle.dayfile.specs.declared.records.Mark.{Mark}
 use Rattle.dayfile.specs.declared.records.Correction.{Correction}
 use Rattle.checks.specs.Table.{above_limit}
-use Rattle.checks.specs.Marks.{OffIncrement, off_increment, no_mark}
+use Rattle.checks.specs.Marks.{OffTick, off_tick, no_mark}
 use Rattle.checks.specs.declared.corrections.CorrectionsJudged.{CorrectionsJudged}
 
 -- ---- the words, and the test for each
 
--- a correction's price is not a multiple of the day's increment of the mark that it names
-abbrev pub OffItsMark : List Mark → Correction → Type 0
-OffItsMark ms c = (c.mark < length ms) × OffIncrement (mark_at ms c.mark) c.price
-
-abbrev pub bad_price : List Mark → Correction → Bool
-bad_price ms c = above_limit c.price || (not (no_mark ms c.mark) && off_increment (mark_at ms c.mark) c.price)
+-- a price breaks 6 or 7 for a mark
+abbrev pub bad_price : Mark → ℕ → Bool
+bad_price m p = above_limit p || off_tick m p
 
 -- two corrections agree in number
 abbrev pub same_number : Correction → Correction → Bool
@@ -59,12 +56,12 @@ module _ (ms : List Mark) (cs : List Correction) where
         Condition = λ i. length ms ≤ (correction_at cs i).mark;
         test = λ i. no_mark ms (correction_at cs i).mark;
       }
-  -- 10: a correction's price is above 1,000,000, or not a multiple of its mark's increment
+  -- 10: a correction's price breaks 6 or 7 for its mark
   correction_check CorrectionPrice =
       record {
         number = 10;
-        Condition = λ i. let c = correction_at cs i in (price_limit < c.price) ⊎ OffItsMark ms c;
-        test = λ i. bad_price ms (correction_at cs i);
+        Condition = λ i. let c = correction_at cs i in (price_limit < c.price) ⊎ OffTick (mark_at ms c.mark) c.price;
+        test = λ i. let c = correction_at cs i in bad_price (mark_at ms c.mark) c.price;
       }
   -- 11: a correction agrees with an earlier one in number but differs in mark or price
   correction_check CorrectionClash =

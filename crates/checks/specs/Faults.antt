@@ -7,7 +7,7 @@ use Rattle.numbers.specs.declared.Found.TheVariants.{At, Nothing}
 use Rattle.numbers.specs.declared.deciding.Decision.{Decision}
 use Rattle.numbers.specs.declared.deciding.Decision.TheVariants.{Unmet}
 use Rattle.numbers.specs.declared.deciding.Wanted.{Wanted}
-use Rattle.products.specs.Products.{is_allowed, has_month}
+use Rattle.products.specs.Products.{has_month}
 use Rattle.products.specs.declared.table.Product.{Product}
 use Rattle.dayfile.specs.Limits.{file_limits, year_limit, lots_limit}
 use Rattle.dayfile.specs.Records.{mark_at, correction_at, position_at}
@@ -15,7 +15,8 @@ use Rattle.dayfile.specs.declared.records.Mark.{Mark}
 use Rattle.dayfile.specs.declared.records.Correction.{Correction}
 use Rattle.dayfile.specs.declared.records.Position.{Position}
 use Rattle.dayfile.specs.declared.records.RawPosition.{RawPosition}
-use Rattle.checks.specs.Marks.{no_mark, bad_code, bad_date, bad_increment, high_mark, off_mark, mark_check, MarkCode, MarkDate, MarkIncrement, MarkLimit, MarkMultiple}
+use Rattle.checks.specs.Table.{tick_of}
+use Rattle.checks.specs.Marks.{no_mark, bad_code, bad_date, high_mark, off_tick_mark, mark_check, MarkCode, MarkDate, MarkLimit, MarkTick}
 use Rattle.checks.specs.Corrections.{bad_price, number_pair, clash_pair, correction_check, CorrectionMark, CorrectionPrice}
 use Rattle.checks.specs.Positions.{bad_lots, position_check, PositionMark, PositionLots}
 use Rattle.checks.specs.declared.marks.MarkFaults.{MarkFaults}
@@ -28,23 +29,24 @@ use Rattle.checks.specs.declared.positions.PositionFindings.{PositionFindings}
 -- ---- what is wrong with one record
 
 abbrev pub mark_faults : Mark → MarkFaults
-mark_faults m = record { code = bad_code m; date = bad_date m; increment = bad_increment m; high = high_mark m; off = off_mark m }
+mark_faults m = record { code = bad_code m; date = bad_date m; high = high_mark m; off = off_tick_mark m; tick = tick_of m.code }
 
 abbrev pub correction_faults : List Mark → Correction → CorrectionFaults
-correction_faults ms c = record { missing = no_mark ms c.mark; price = bad_price ms c }
+correction_faults ms c = record { missing = no_mark ms c.mark; price = bad_price (mark_at ms c.mark) c.price }
 
 abbrev pub position_faults : List Mark → Position → PositionFaults
 position_faults ms p = record { missing = no_mark ms p.mark; lots = bad_lots p.lots }
 
--- a mark's date, increment and previous price, by its product
-abbrev pub date_by : Product → Mark → Bool
-date_by product m = not (has_month product m.month) || nat_lt year_limit m.year
-
-abbrev pub increment_by : Product → Mark → Bool
-increment_by product m = not (is_allowed product m.increment) || not (m.padding == 0)
-
-abbrev pub previous_by : Product → Mark → Bool
-previous_by product m = not (m.previous % product.finest == 0)
+-- a mark of a product
+abbrev pub faults_by : Product → Mark → MarkFaults
+faults_by product m =
+    record {
+      code = false;
+      date = not (has_month product m.month) || nat_lt year_limit m.year;
+      high = high_mark m;
+      off = not (m.previous % product.tick == 0) || not (m.today % product.tick == 0);
+      tick = product.tick;
+    }
 
 -- a position as its bytes have it, given how many marks there are
 abbrev pub raw_faults : ℕ → RawPosition → PositionFaults
@@ -54,7 +56,7 @@ raw_faults n w =
 
 -- whether anything is
 abbrev pub any_mark_fault : MarkFaults → Bool
-any_mark_fault faults = faults.code || faults.date || faults.increment || faults.high || faults.off
+any_mark_fault faults = faults.code || faults.date || faults.high || faults.off
 
 abbrev pub any_correction_fault : CorrectionFaults → Bool
 any_correction_fault faults = faults.missing || faults.price
@@ -79,9 +81,8 @@ mark_findings ms n =
     record {
       code = first (mark_check ms MarkCode).test n;
       date = first (mark_check ms MarkDate).test n;
-      increment = first (mark_check ms MarkIncrement).test n;
       high = first (mark_check ms MarkLimit).test n;
-      off = first (mark_check ms MarkMultiple).test n;
+      off = first (mark_check ms MarkTick).test n;
     }
 
 abbrev pub correction_findings : List Mark → List Correction → ℕ → CorrectionFindings
@@ -99,7 +100,6 @@ also o b i = or_else o (cond b (At i) Nothing)
 pub record WithMark (f : MarkFindings) (faults : MarkFaults) (i : ℕ) (r : MarkFindings) : Type 0 where
   pub code : r.code ≡ also f.code faults.code i
   pub date : r.date ≡ also f.date faults.date i
-  pub increment : r.increment ≡ also f.increment faults.increment i
   pub high : r.high ≡ also f.high faults.high i
   pub off : r.off ≡ also f.off faults.off i
 
@@ -114,8 +114,8 @@ pub record WithPosition (f : PositionFindings) (faults : PositionFaults) (i : �
 -- the checks one after the other, those that are looked at, by what was found
 abbrev pub mark_decision : MarkFindings → Found → Wanted → Decision
 mark_decision f repeated w =
-    or_found (or_found (or_found (or_found (or_found (or_found Unmet 4 (sought w 4 f.code)) 5 (sought w 5 f.date))
-    18 (sought w 18 f.increment)) 6 (sought w 6 f.high)) 7 (sought w 7 f.off)) 8 (sought w 8 repeated)
+    or_found (or_found (or_found (or_found (or_found Unmet 4 (sought w 4 f.code)) 5 (sought w 5 f.date)) 6 (sought w 6 f.high))
+    7 (sought w 7 f.off)) 8 (sought w 8 repeated)
 
 abbrev pub correction_decision : CorrectionFindings → Found → Wanted → Decision
 correction_decision f clash w =
@@ -126,6 +126,14 @@ position_decision f repeated w =
     or_found (or_found (or_found Unmet 12 (sought w 12 f.missing)) 13 (sought w 13 f.lots)) 16 (sought w 16 repeated)
 
 -- ---- arrays
+
+-- an array has the ticks of the marks
+abbrev pub tick_at : List Mark → ℕ → ℕ
+tick_at ms m = tick_of (mark_at ms m).code
+
+pub record Ticks (ms : List Mark) (a : List ℕ) : Type 0 where
+  pub few : length ms ≤ file_limits.marks
+  pub ticks : Filled 0 (tick_at ms) (length ms) a
 
 -- an array has for each correction the last earlier one with its number, as one more than its index
 pub record Lasts (cs : List Correction) (a : List ℕ) : Type 0 where

@@ -1,4 +1,4 @@
--- What the checks say of three lists of records, and checks 1 to 13, 16 and 18 of a whole file.
+-- What the checks say of three lists of records, and checks 1 to 13 and 16 of a whole file.
 use Rattle.std.specs.Prelude.{ℕ, ◌<◌, ◌||◌, ◌⊎◌, List, length, nat_lt}
 use Rattle.numbers.specs.Checks.{Check, Checks, only, ◌before◌, decision_of}
 use Rattle.numbers.specs.declared.deciding.Decision.{Decision}
@@ -14,7 +14,7 @@ use Rattle.checks.specs.Positions.{position_checks}
 use Rattle.checks.specs.declared.judging.Judged.{Judged}
 use Rattle.checks.specs.declared.judging.Judged.TheVariants.{Passed, Refused}
 
--- the checks over the records of three lists: 4 to 13, 16 and 18
+-- the checks over the records of three lists: 4 to 13 and 16
 abbrev pub record_checks : Lists → Checks
 record_checks ls =
     mark_checks ls.marks before correction_checks ls.marks ls.corrections before position_checks ls.marks ls.positions
@@ -35,7 +35,7 @@ module _ (l : Limits) (ls : Lists) where
   abbrev pub list_checks : Checks
   list_checks = only too_many_records before record_checks ls
 
--- those over a file: 1 to 13, 16 and 18
+-- those over a file: 1 to 13 and 16
 abbrev pub file_checks : Limits → List ℕ → Checks
 file_checks l f = header_checks l f before record_checks (lists_of_file f)
 

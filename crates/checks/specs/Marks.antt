@@ -1,5 +1,5 @@
--- The checks over the marks: 4, 5, 18 and 6 to 8.
-use Rattle.std.specs.Prelude.{◌≡◌, ℕ, ◌%◌, ◌<◌, Bool, not, ◌&&◌, ◌||◌, ◌≢◌, ◌⊎◌, List, [], ◌∷◌, length, ◌==◌, nat_le, nat_lt}
+-- The checks over the marks: 4 to 8.
+use Rattle.std.specs.Prelude.{◌≡◌, ℕ, ◌%◌, ◌<◌, Bool, not, ◌&&◌, ◌||◌, ◌⊎◌, List, [], ◌∷◌, length, ◌==◌, nat_le, nat_lt}
 use mathlib.Core.List.{Memᴰ}
 use Rattle.std.specs.Int.{◌∣◌}
 use Rattle.numbers.specs.Folds.{repeating}
@@ -11,7 +11,7 @@ use Rattle.products.specs.declared.table.NamedProduct.TheVariants.{Named}
 use Rattle.dayfile.specs.Limits.{Limits, year_limit}
 use Rattle.dayfile.specs.Records.{mark_at}
 use Rattle.dayfile.specs.declared.records.Mark.{Mark}
-use Rattle.checks.specs.Table.{above_limit, listed, code_has_month, code_allows, finest_of}
+use Rattle.checks.specs.Table.{above_limit, listed, code_has_month, tick_of}
 
 -- ---- the words, and the test for each
 
@@ -19,23 +19,12 @@ use Rattle.checks.specs.Table.{above_limit, listed, code_has_month, code_allows,
 abbrev pub HasMonth : Code → ℕ → Type 0
 HasMonth code month = (product : Product) × (find code ≡ Named product) × Memᴰ month (months_of product)
 
--- the product table has the code, and the increment is the product's tick or its finest
-abbrev pub Allows : Code → ℕ → Type 0
-Allows code increment = (product : Product) × (find code ≡ Named product) × ((increment ≡ product.tick) ⊎ (increment ≡ product.finest))
+-- a price is not a multiple of the tick of a mark's product
+abbrev pub OffTick : Mark → ℕ → Type 0
+OffTick m p = (product : Product) × (find m.code ≡ Named product) × ¬ (product.tick ∣ p)
 
--- a price is not a multiple of the finest increment of a mark's product
-abbrev pub OffFinest : Mark → ℕ → Type 0
-OffFinest m p = (product : Product) × (find m.code ≡ Named product) × ¬ (product.finest ∣ p)
-
-abbrev pub off_finest : Mark → ℕ → Bool
-off_finest m p = not (p % finest_of m.code == 0)
-
--- a price is not a multiple of the day's increment, which the mark has
-abbrev pub OffIncrement : Mark → ℕ → Type 0
-OffIncrement m p = ¬ (m.increment ∣ p)
-
-abbrev pub off_increment : Mark → ℕ → Bool
-off_increment m p = not (p % m.increment == 0)
+abbrev pub off_tick : Mark → ℕ → Bool
+off_tick m p = not (p % tick_of m.code == 0)
 
 -- there is no mark with this index
 abbrev pub no_mark : List Mark → ℕ → Bool
@@ -58,23 +47,19 @@ bad_code m = not (listed m.code)
 abbrev pub bad_date : Mark → Bool
 bad_date m = not (code_has_month m.code m.month) || nat_lt year_limit m.year
 
-abbrev pub bad_increment : Mark → Bool
-bad_increment m = not (code_allows m.code m.increment) || not (m.padding == 0)
-
 abbrev pub high_mark : Mark → Bool
 high_mark m = above_limit m.previous || above_limit m.today
 
-abbrev pub off_mark : Mark → Bool
-off_mark m = off_finest m m.previous || off_increment m m.today
+abbrev pub off_tick_mark : Mark → Bool
+off_tick_mark m = off_tick m m.previous || off_tick m m.today
 
 -- ---- the checks
 
 pub data MarkCheck : Type 0 where
   MarkCode : MarkCheck
   MarkDate : MarkCheck
-  MarkIncrement : MarkCheck
   MarkLimit : MarkCheck
-  MarkMultiple : MarkCheck
+  MarkTick : MarkCheck
   MarkRepeated : MarkCheck
 
 module _ (ms : List Mark) where
@@ -88,13 +73,6 @@ module _ (ms : List Mark) where
         Condition = λ i. let m = mark_at ms i in ¬ (HasMonth m.code m.month) ⊎ (year_limit < m.year);
         test = λ i. bad_date (mark_at ms i);
       }
-  -- 18: a mark's increment is not one that its product allows, or its last two bytes are not zero
-  mark_check MarkIncrement =
-      record {
-        number = 18;
-        Condition = λ i. let m = mark_at ms i in ¬ (Allows m.code m.increment) ⊎ (m.padding ≢ 0);
-        test = λ i. bad_increment (mark_at ms i);
-      }
   -- 6: a mark's price is above 1,000,000
   mark_check MarkLimit =
       record {
@@ -102,12 +80,12 @@ module _ (ms : List Mark) where
         Condition = λ i. let m = mark_at ms i in (price_limit < m.previous) ⊎ (price_limit < m.today);
         test = λ i. high_mark (mark_at ms i);
       }
-  -- 7: a mark's previous price is not a multiple of its product's finest increment, or today's price of the day's increment
-  mark_check MarkMultiple =
+  -- 7: a mark's price is not a multiple of its product's tick
+  mark_check MarkTick =
       record {
         number = 7;
-        Condition = λ i. let m = mark_at ms i in OffFinest m m.previous ⊎ OffIncrement m m.today;
-        test = λ i. off_mark (mark_at ms i);
+        Condition = λ i. let m = mark_at ms i in OffTick m m.previous ⊎ OffTick m m.today;
+        test = λ i. off_tick_mark (mark_at ms i);
       }
   -- 8: a mark agrees with an earlier one in code, month and year
   mark_check MarkRepeated =
@@ -123,7 +101,7 @@ module _ (ms : List Mark) where
         Name = MarkCheck;
         check = mark_check;
         size = λ c. length ms;
-        order = MarkCode ∷ MarkDate ∷ MarkIncrement ∷ MarkLimit ∷ MarkMultiple ∷ MarkRepeated ∷ [];
+        order = MarkCode ∷ MarkDate ∷ MarkLimit ∷ MarkTick ∷ MarkRepeated ∷ [];
       }
 
 -- the same of a list that stands in no file: 2 where a file may not have as many marks, before the others

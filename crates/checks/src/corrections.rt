@@ -6,38 +6,39 @@ ghost use Rattle.dayfile.specs.Limits.{file_limits};
 ghost use Rattle.dayfile.specs.Records.{marks_in, corrections_in};
 ghost use Rattle.checks.specs.Corrections.{correction_checks, corrections_judged, resent_of};
 ghost use Rattle.checks.specs.Faults.{correction_faults, any_correction_fault, some_correction_fault};
-ghost use Rattle.checks.specs.Faults.{correction_findings, WithCorrection, correction_decision};
+ghost use Rattle.checks.specs.Faults.{correction_findings, WithCorrection, correction_decision, Ticks};
 
 use crate::clashes::{first_clash, resent_count};
 use crate::marks::above_limit;
-use dayfile::{Correction, DayFile, correction_at, correction_count, mark_at, mark_count};
+use dayfile::{Correction, DayFile, correction_at, correction_count, mark_count};
 use numbers::{Decision, Found, Wanted};
 use pairs::{Key, earlier};
-use products::off_increment;
+use products::off_tick;
 
 // What is wrong with a correction by itself.
 #[derive(Drop)]
 pub struct CorrectionFaults {
     // 9: it names no mark
     pub missing: bool,
-    // 10: its price is above the highest one, or not a multiple of its mark's increment
+    // 10: its price breaks 6 or 7 for its mark
     pub price: bool,
 }
 
-// The faults of a correction, given the marks.
-fn faults(marks: &[u8], c: Correction) -> CorrectionFaults
+// The faults of a correction, given the marks and their ticks.
+fn faults(marks: &[u8], ticks: &[u32; DayFile::MAX_MARKS], c: Correction) -> CorrectionFaults
+    requires { Ticks (marks_in marks.now) ticks.now }
     ensures { result ≡ correction_faults (marks_in marks.now) c }
 {
-    if mark_count(marks) <= c.mark {
+    let m = c.mark;
+    if mark_count(marks) <= m {
         return CorrectionFaults {
             missing: true,
             price: above_limit(c.price),
         };
     }
-    let m = mark_at(marks, c.mark);
     CorrectionFaults {
         missing: false,
-        price: above_limit(c.price) | off_increment(c.price, m.increment as u32),
+        price: above_limit(c.price) | off_tick(c.price, ticks[m]),
     }
 }
 
@@ -48,14 +49,15 @@ fn any_fault(faults: CorrectionFaults) -> bool
 }
 
 // Whether anything is wrong with some correction by itself.
-fn some_fault(marks: &[u8], corrections: &[u8]) -> bool
+fn some_fault(marks: &[u8], ticks: &[u32; DayFile::MAX_MARKS], corrections: &[u8]) -> bool
+    requires { Ticks (marks_in marks.now) ticks.now }
     ensures { result ≡ some_correction_fault (marks_in marks.now) (corrections_in corrections.now) }
 {
     let n = correction_count(corrections);
     let mut bad = false;
     let mut i = 0;
     while i < n {
-        bad = bad | any_fault(faults(marks, correction_at(corrections, i)));
+        bad = bad | any_fault(faults(marks, ticks, correction_at(corrections, i)));
         i += 1;
     }
     bad
@@ -80,7 +82,12 @@ fn with_correction(f: CorrectionFindings, faults: CorrectionFaults, i: usize) ->
     }
 }
 
-fn find_first(marks: &[u8], corrections: &[u8]) -> CorrectionFindings
+fn find_first(
+    marks: &[u8],
+    ticks: &[u32; DayFile::MAX_MARKS],
+    corrections: &[u8],
+) -> CorrectionFindings
+    requires { Ticks (marks_in marks.now) ticks.now }
     ensures { result ≡ correction_findings (marks_in marks.now) (corrections_in corrections.now)
         (length (corrections_in corrections.now)) }
 {
@@ -91,7 +98,7 @@ fn find_first(marks: &[u8], corrections: &[u8]) -> CorrectionFindings
     };
     let mut i = 0;
     while i < n {
-        f = with_correction(f, faults(marks, correction_at(corrections, i)), i);
+        f = with_correction(f, faults(marks, ticks, correction_at(corrections, i)), i);
         i += 1;
     }
     f
@@ -116,25 +123,26 @@ pub struct CorrectionsJudged {
     pub resent: usize,
 }
 
-// What the checks decide of corrections within the file's limit, those that are looked at, given the marks.
+// What the checks decide of corrections within the file's limit, those that are looked at, given the marks and their ticks.
 pub(crate) fn decide_corrections(
     marks: &[u8],
+    ticks: &[u32; DayFile::MAX_MARKS],
     corrections: &[u8],
     wanted: Wanted,
 ) -> CorrectionsJudged
-    requires { length (corrections_in corrections.now) ≤ file_limits.corrections }
+    requires { Ticks (marks_in marks.now) ticks.now × (length (corrections_in corrections.now) ≤ file_limits.corrections) }
     ensures { (result.decision
         ≡ decision_for (correction_checks (marks_in marks.now) (corrections_in corrections.now)) wanted)
         × (result.resent ≡ resent_of (corrections_in corrections.now)) }
 {
-    let bad = some_fault(marks, corrections);
+    let bad = some_fault(marks, ticks, corrections);
     let mut numbers = [0u16; DayFile::MAX_CORRECTIONS];
     earlier(corrections, Correction::SIZE, Key::Four, &mut numbers);
     let clash = first_clash(corrections, &numbers);
     let resent = resent_count(corrections, &numbers);
     if bad | clash.is_some() {
         return CorrectionsJudged {
-            decision: decide(find_first(marks, corrections), clash, wanted),
+            decision: decide(find_first(marks, ticks, corrections), clash, wanted),
             resent,
         };
     }
@@ -160,5 +168,7 @@ pub fn check_corrections(marks: &[u8], corrections: &[u8]) -> CorrectionsJudged
             resent: 0,
         };
     }
-    decide_corrections(marks, corrections, Wanted::All)
+    let mut ticks = [0u32; DayFile::MAX_MARKS];
+    crate::marks::some_fault(marks, &mut ticks);
+    decide_corrections(marks, &ticks, corrections, Wanted::All)
 }

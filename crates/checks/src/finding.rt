@@ -22,8 +22,8 @@ fn decide_one(marks: &[u8], corrections: &[u8], positions: &[u8], k: u32) -> Dec
     judged.decision
 }
 
-// The first record where the condition of check k holds, whatever the other checks say; k is a number from 1 to 13, 16 or 18, and
-// any other finds nothing. Of a file that is shorter than a header its length alone is looked at, and of one that has a count above its limit
+// The first record where the condition of check k holds, whatever the other checks say; k is a number from 1 to 13 or 16, and any
+// other finds nothing. Of a file that is shorter than a header its length alone is looked at, and of one that has a count above its limit
 // the header alone.
 pub fn find(file: &[u8], k: u32) -> Found
     ensures { result ≡ found_of file_limits file.now k }

@@ -13,7 +13,7 @@ use crate::positions::decide_positions;
 use dayfile::{DayFile, Opened, correction_count, mark_count, open_file, position_count};
 use numbers::{Decision, Wanted};
 
-// A file that passes checks 1 to 13, 16 and 18: its counts, and how many of its corrections bear a number that an earlier one bears.
+// A file that passes checks 1 to 13 and 16: its counts, and how many of its corrections bear a number that an earlier one bears.
 // Or the number of the check that turns it away, and the record's index.
 #[derive(Drop)]
 pub enum Judged {
@@ -40,8 +40,9 @@ pub(crate) fn decide_records(
         ≡ decision_for (record_checks (lists_of marks.now corrections.now positions.now)) wanted)
         × (result.resent ≡ resent_of (corrections_in corrections.now)) }
 {
-    let of_marks = decide_marks(marks, wanted);
-    let of_corrections = decide_corrections(marks, corrections, wanted);
+    let mut ticks = [0u32; DayFile::MAX_MARKS];
+    let of_marks = decide_marks(marks, &mut ticks, wanted);
+    let of_corrections = decide_corrections(marks, &ticks, corrections, wanted);
     let of_positions = decide_positions(marks, positions, wanted);
     let decision = of_corrections.decision;
     RecordsJudged {
@@ -60,7 +61,7 @@ pub fn too_many(marks: &[u8], corrections: &[u8], positions: &[u8]) -> bool
         | (position_count(positions) > DayFile::MAX_POSITIONS)
 }
 
-// What the checks decide of three lists: 2 where a file may not have as many of any, then 4 to 13, 16 and 18.
+// What the checks decide of three lists: 2 where a file may not have as many of any, then 4 to 13 and 16.
 pub fn check_records(marks: &[u8], corrections: &[u8], positions: &[u8]) -> Decision
     ensures { result
         ≡ decision_of (list_checks file_limits (lists_of marks.now corrections.now positions.now)) }
@@ -92,7 +93,7 @@ fn judge_records(marks: &[u8], corrections: &[u8], positions: &[u8], counts: Day
     }
 }
 
-// Checks 1 to 13, 16 and 18, in their order.
+// Checks 1 to 13 and 16, in their order.
 pub fn judge(file: &[u8]) -> Judged
     ensures { result ≡ judged_of file_limits file.now }
 {

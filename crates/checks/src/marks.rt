@@ -1,5 +1,5 @@
-// The checks over the marks: 4, 5, 18 and 6 to 8. One pass asks whether anything is wrong; only where something is, a second one finds
-// which mark fails which check. Both look at a mark by the same function.
+// The checks over the marks: 4 to 8. One pass asks whether anything is wrong; only where something is, a second one finds which mark fails
+// which check. Both look at a mark by the same function.
 ghost use Rattle.std.specs.Prelude.{◌≡◌, ◌≤◌, length};
 ghost use Rattle.numbers.specs.Folds.{first, repeating};
 ghost use Rattle.numbers.specs.Checks.{decision_of, decision_for};
@@ -7,28 +7,27 @@ ghost use Rattle.dayfile.specs.Limits.{file_limits};
 ghost use Rattle.dayfile.specs.Records.{marks_in};
 ghost use Rattle.checks.specs.Table.{above_limit};
 ghost use Rattle.checks.specs.Marks.{contract_pair, high_mark, mark_checks, mark_list_checks};
-ghost use Rattle.checks.specs.Faults.{mark_faults, date_by, increment_by, previous_by, any_mark_fault, some_mark_fault, mark_findings, WithMark, mark_decision};
+ghost use Rattle.checks.specs.Faults.{mark_faults, faults_by, any_mark_fault, some_mark_fault, mark_findings, WithMark, mark_decision, Ticks};
 
 use dayfile::{DayFile, Mark, mark_at, mark_count};
 use numbers::{Decision, Found, Wanted};
 use pairs::{Key, first_repeated};
-use products::{PRICE_LIMIT, Product, has_month, is_allowed, lookup, off_increment};
+use products::{PRICE_LIMIT, Product, has_month, lookup, off_tick};
 
 const YEAR_LIMIT: u8 = 99;
 
-// What is wrong with a mark by itself.
+// What is wrong with a mark by itself, and its product's tick, 1 where there is no product.
 #[derive(Drop)]
 pub struct MarkFaults {
     // 4: the code is not in the product table
     pub code: bool,
     // 5: the month is not one of the product's, or the year is above 99
     pub date: bool,
-    // 18: the increment is not one that the product allows, or the last two bytes are not zero
-    pub increment: bool,
     // 6: a price is above the highest one
     pub high: bool,
-    // 7: the previous price is not a multiple of the product's finest increment, or today's price of the day's
+    // 7: a price is not a multiple of the tick
     pub off: bool,
+    pub tick: u32,
 }
 
 // Whether a price is above the highest one.
@@ -45,47 +44,31 @@ fn is_high(m: Mark) -> bool
     above_limit(m.previous) | above_limit(m.today)
 }
 
-// 5, by the product: the month is not one of its months, or the year is above 99.
-fn bad_date(product: Product, m: Mark) -> bool
-    ensures { result ≡ date_by product m }
+// The faults of a mark of a product.
+fn faults_by(product: Product, m: Mark) -> MarkFaults
+    ensures { result ≡ faults_by product m }
 {
-    !has_month(product, m.month) | (m.year > YEAR_LIMIT)
+    MarkFaults {
+        code: false,
+        date: !has_month(product, m.month) | (m.year > YEAR_LIMIT),
+        high: is_high(m),
+        off: off_tick(m.previous, product.tick) | off_tick(m.today, product.tick),
+        tick: product.tick,
+    }
 }
 
-// 18, by the product: it does not allow the increment, or the last two bytes are not zero.
-fn bad_increment(product: Product, m: Mark) -> bool
-    ensures { result ≡ increment_by product m }
-{
-    !is_allowed(product, m.increment as u32) | (m.padding != 0)
-}
-
-// 7, of the previous price: it is not a multiple of the product's finest increment.
-fn off_previous(product: Product, m: Mark) -> bool
-    ensures { result ≡ previous_by product m }
-{
-    off_increment(m.previous, product.finest)
-}
-
-// The faults of a mark.
+// The faults of any mark.
 fn faults(m: Mark) -> MarkFaults
     ensures { result ≡ mark_faults m }
 {
-    let high = is_high(m);
-    let off_today = off_increment(m.today, m.increment as u32);
     match lookup(m.code) {
-        products::NamedProduct::Named(product) => MarkFaults {
-            code: false,
-            date: bad_date(product, m),
-            increment: bad_increment(product, m),
-            high,
-            off: off_previous(product, m) | off_today,
-        },
+        products::NamedProduct::Named(product) => faults_by(product, m),
         products::NamedProduct::Missing => MarkFaults {
             code: true,
             date: true,
-            increment: true,
-            high,
-            off: off_today,
+            high: is_high(m),
+            off: false,
+            tick: 1,
         },
     }
 }
@@ -93,18 +76,21 @@ fn faults(m: Mark) -> MarkFaults
 fn any_fault(faults: MarkFaults) -> bool
     ensures { result ≡ any_mark_fault faults }
 {
-    faults.code | faults.date | faults.increment | faults.high | faults.off
+    faults.code | faults.date | faults.high | faults.off
 }
 
-// Whether anything is wrong with some mark by itself.
-fn some_fault(marks: &[u8]) -> bool
-    ensures { result ≡ some_mark_fault (marks_in marks.now) }
+// Whether anything is wrong with some mark by itself. Writes the ticks of all marks.
+pub(crate) fn some_fault(marks: &[u8], ticks: &mut [u32; DayFile::MAX_MARKS]) -> bool
+    requires { (length (marks_in marks.now) ≤ file_limits.marks) × (length ticks.old ≡ file_limits.marks) }
+    ensures { (result ≡ some_mark_fault (marks_in marks.now)) × Ticks (marks_in marks.now) ticks.new }
 {
     let n = mark_count(marks);
     let mut bad = false;
     let mut i = 0;
     while i < n {
-        bad = bad | any_fault(faults(mark_at(marks, i)));
+        let of_mark = faults(mark_at(marks, i));
+        bad = bad | any_fault(of_mark);
+        ticks[i] = of_mark.tick;
         i += 1;
     }
     bad
@@ -115,7 +101,6 @@ fn some_fault(marks: &[u8]) -> bool
 pub struct MarkFindings {
     pub code: Found,
     pub date: Found,
-    pub increment: Found,
     pub high: Found,
     pub off: Found,
 }
@@ -126,13 +111,11 @@ fn with_mark(f: MarkFindings, faults: MarkFaults, i: usize) -> MarkFindings
 {
     let code = f.code;
     let date = f.date;
-    let increment = f.increment;
     let high = f.high;
     let off = f.off;
     MarkFindings {
         code: code.or_at(faults.code, i),
         date: date.or_at(faults.date, i),
-        increment: increment.or_at(faults.increment, i),
         high: high.or_at(faults.high, i),
         off: off.or_at(faults.off, i),
     }
@@ -146,7 +129,6 @@ fn find_first(marks: &[u8]) -> MarkFindings
     let mut f = MarkFindings {
         code: Found::Nothing,
         date: Found::Nothing,
-        increment: Found::Nothing,
         high: Found::Nothing,
         off: Found::Nothing,
     };
@@ -172,24 +154,27 @@ fn decide(f: MarkFindings, repeated: Found, wanted: Wanted) -> Decision
 {
     let code = f.code;
     let date = f.date;
-    let increment = f.increment;
     let high = f.high;
     let off = f.off;
     let d = Decision::Unmet;
     let d = d.or_found(wanted, 4, code);
     let d = d.or_found(wanted, 5, date);
-    let d = d.or_found(wanted, 18, increment);
     let d = d.or_found(wanted, 6, high);
     let d = d.or_found(wanted, 7, off);
     d.or_found(wanted, 8, repeated)
 }
 
-// What the checks over marks within the file's limit decide, those that are looked at.
-pub(crate) fn decide_marks(marks: &[u8], wanted: Wanted) -> Decision
-    requires { length (marks_in marks.now) ≤ file_limits.marks }
-    ensures { result ≡ decision_for (mark_checks (marks_in marks.now)) wanted }
+// What the checks over marks within the file's limit decide, those that are looked at. Writes the ticks of all marks.
+pub(crate) fn decide_marks(
+    marks: &[u8],
+    ticks: &mut [u32; DayFile::MAX_MARKS],
+    wanted: Wanted,
+) -> Decision
+    requires { (length (marks_in marks.now) ≤ file_limits.marks) × (length ticks.old ≡ file_limits.marks) }
+    ensures { (result ≡ decision_for (mark_checks (marks_in marks.now)) wanted)
+        × Ticks (marks_in marks.now) ticks.new }
 {
-    let bad = some_fault(marks);
+    let bad = some_fault(marks, ticks);
     let repeated = repeated(marks);
     if bad | repeated.is_some() {
         return decide(find_first(marks), repeated, wanted);
@@ -197,7 +182,7 @@ pub(crate) fn decide_marks(marks: &[u8], wanted: Wanted) -> Decision
     Decision::Unmet
 }
 
-// What the checks decide of a list of marks: 2 where a file may not have as many, then 4, 5, 18 and 6 to 8.
+// What the checks decide of a list of marks: 2 where a file may not have as many, then 4 to 8.
 pub fn check_marks(marks: &[u8]) -> Decision
     ensures { result ≡ decision_of (mark_list_checks file_limits (marks_in marks.now)) }
 {
@@ -207,5 +192,6 @@ pub fn check_marks(marks: &[u8]) -> Decision
             index: 0,
         };
     }
-    decide_marks(marks, Wanted::All)
+    let mut ticks = [0u32; DayFile::MAX_MARKS];
+    decide_marks(marks, &mut ticks, Wanted::All)
 }

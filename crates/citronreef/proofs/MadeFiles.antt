@@ -54,7 +54,7 @@ module _ (ms cs ps out : List ℕ) {n : ℕ} (e : makerAnswerOf file_limits ms c
 
 -- ---- corrections sent again
 
--- A file that passes checks 1 to 13, 16 and 18, with copies of its corrections put anywhere into their list, within the limit, is brought into line
+-- A file that passes checks 1 to 13 and 16, with copies of its corrections put anywhere into their list, within the limit, is brought into line
 -- by the maker: from the file's marks, the corrections with the copies and the file's positions it makes the file sent again.
 pub resent_makes : (f : List ℕ) (ds : List (List ℕ)) (copies : ℕ) (out : List ℕ) {c : DayFile} {resent : ℕ} → judged_of file_limits f ≡ Passed c resent
     → SentAgain (correction_records f) (correction_records f) ds copies → length ds ≤ file_limits.corrections → length f + correction_size * copies ≤ length out

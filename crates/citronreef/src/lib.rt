@@ -226,7 +226,7 @@ pub extern "C" fn citronreef_mark(file: &[u8], mark: usize) -> MarkOutcome
     mark_numbers(settlement::mark(file, mark))
 }
 
-// The first record of a day file where the condition of one of checks 1 to 13, 16 and 18 holds, whatever the others say, as far as a
+// The first record of a day file where the condition of one of checks 1 to 13 and 16 holds, whatever the others say, as far as a
 // file is looked at (`checks::find`).
 #[unsafe(no_mangle)]
 pub extern "C" fn citronreef_find(file: &[u8], check: u32) -> Finding

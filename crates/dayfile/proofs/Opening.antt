@@ -141,7 +141,7 @@ laid_out f p =
     rw (← e) (record { counts-within = record { marks = h.marks-fit; corrections = h.corrections-fit; positions = h.positions-fit }; whole = h.ends_at })
 
 -- a file longer than the limits allow is refused with 2 or 3
-pub too_long : (f : List ℕ) → 59416 < length f → (opened_of file_limits f ≡ Refused 2) ⊎ (opened_of file_limits f ≡ Refused 3)
+pub too_long : (f : List ℕ) → 58392 < length f → (opened_of file_limits f ≡ Refused 2) ⊎ (opened_of file_limits f ≡ Refused 3)
 unfolding counts_of
 too_long f h = go (within_limits file_limits (counts_of f)) refl (as_laid_out f (counts_of f)) refl
   where

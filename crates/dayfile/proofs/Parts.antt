@@ -2,7 +2,6 @@
 use mathlib.Core.Path.{◌≡◌, ◌∙◌}
 use mathlib.Core.List.{List, map}
 use Prim.Native.Nat.{ℕ, ◌+◌, ◌-◌, ◌*◌, ◌/◌, ◌≤◌}
-use native.Mathlib.Nat.{le_trans, div-le_of_le-mul}
 use native.Mathlib.Omega.{arith}
 use lib.ListN.{length}
 use Rattle.numbers.specs.Bytes.{u32_at, part, records_of}
@@ -28,16 +27,16 @@ module _ (s : List ℕ) (d : DayFile) (whole : length s ≡ length_of d) where
   positions_sized = sized position_of position_size (positions_start d) (position_size * d.positions) d.positions s (omega (arith, whole)) (omega arith)
 
 -- no part of a file has more records than its length gives
-few : {R : Type 0} (f : List ℕ → R) (w a n : ℕ) (s : List ℕ) {m : ℕ} → n ≤ m → length (map f (records_of w (part a (w * n) s))) ≤ m
-few f w a n s h = rw (size_is f w (part a (w * n) s)) (le_trans (div-le_of_le-mul w (part-within a (w * n) s)) h)
+few : {R : Type 0} (f : List ℕ → R) (a n : ℕ) (s : List ℕ) {m : ℕ} → n ≤ m → length (map f (records_of 12 (part a (12 * n) s))) ≤ m
+few f a n s h = rw (size_is f 12 (part a (12 * n) s)) (omega (arith, part-within a (12 * n) s))
 
 -- those of a file with counts within the limits are within them, whatever its length
 pub lists_within : (s : List ℕ) (d : DayFile) → CountsWithinLimits d → ListsWithinLimits (lists_in s d)
 lists_within s d h =
     record {
-      marks = few mark_of mark_size header_size d.marks s h.marks;
-      corrections = few correction_of correction_size (corrections_start d) d.corrections s h.corrections;
-      positions = few position_of position_size (positions_start d) d.positions s h.positions;
+      marks = few mark_of header_size d.marks s h.marks;
+      corrections = few correction_of (corrections_start d) d.corrections s h.corrections;
+      positions = few position_of (positions_start d) d.positions s h.positions;
     }
 
 -- The lists of a file that has the length of the layout have as many records as its header counts: M, C and N.

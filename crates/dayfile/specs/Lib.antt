@@ -4,4 +4,3 @@ pub mod Layout
 pub mod Opening
 pub mod Making
 pub mod WithinLimits
-pub mod OldLayout

@@ -1,6 +1,6 @@
 -- Marks, corrections and positions, as a record's bytes have them, and the three lists of them.
 use Rattle.std.specs.Prelude.{ℕ, List, [], map, get_or}
-use Rattle.numbers.specs.Bytes.{byte_at, u16_at, u32_at, signed, records_of}
+use Rattle.numbers.specs.Bytes.{byte_at, u32_at, signed, records_of}
 use Rattle.dayfile.specs.declared.records.Mark.{Mark}
 use Rattle.dayfile.specs.declared.records.Correction.{Correction}
 use Rattle.dayfile.specs.declared.records.Position.{Position}
@@ -8,7 +8,7 @@ use Rattle.dayfile.specs.declared.records.RawPosition.{RawPosition}
 
 -- the sizes of the records, in bytes
 abbrev pub mark_size : ℕ
-mark_size = 16
+mark_size = 12
 
 abbrev pub correction_size : ℕ
 correction_size = 12
@@ -24,8 +24,6 @@ mark_of r =
       year = byte_at r 3;
       previous = u32_at r 4;
       today = u32_at r 8;
-      increment = u16_at r 12;
-      padding = u16_at r 14;
     }
 
 abbrev pub correction_of : List ℕ → Correction

@@ -1,16 +1,8 @@
 // Numbers in bytes, little-endian.
 ghost use Rattle.std.specs.Prelude.{◌≡◌, ◌+◌, ◌≤◌, length};
-ghost use Rattle.numbers.specs.Bytes.{u16_at, u32_at};
+ghost use Rattle.numbers.specs.Bytes.{u32_at};
 
-use numbers::{joined, paired};
-
-// The u16 at a place.
-pub(crate) fn u16_at(s: &[u8], i: usize) -> u16
-    requires { i + 2 ≤ length s.now }
-    ensures { result ≡ u16_at s.now i }
-{
-    paired(s[i], s[i + 1])
-}
+use numbers::joined;
 
 // The u32 at a place.
 pub(crate) fn u32_at(s: &[u8], i: usize) -> u32

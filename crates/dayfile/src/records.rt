@@ -4,7 +4,7 @@ ghost use Rattle.dayfile.specs.Records.{mark_size, correction_size, position_siz
 ghost use Rattle.dayfile.specs.Records.{marks_in, corrections_in, positions_in, raw_positions_in};
 ghost use Rattle.dayfile.specs.Records.{mark_at, correction_at, position_at, raw_position_at};
 
-use crate::bytes::{u16_at, u32_at};
+use crate::bytes::u32_at;
 use numbers::as_signed;
 use products::Code;
 
@@ -15,9 +15,6 @@ pub struct Mark {
     pub year: u8,
     pub previous: u32,
     pub today: u32,
-    // The day's increment, in units of 0.0001, and the last two bytes as one number.
-    pub increment: u16,
-    pub padding: u16,
 }
 
 #[derive(Drop)]
@@ -44,7 +41,7 @@ pub struct RawPosition {
 }
 
 impl Mark {
-    pub const SIZE: usize = 16;
+    pub const SIZE: usize = 12;
 }
 
 impl Correction {
@@ -66,8 +63,6 @@ fn mark_of(r: &[u8]) -> Mark
         year: r[3],
         previous: u32_at(r, 4),
         today: u32_at(r, 8),
-        increment: u16_at(r, 12),
-        padding: u16_at(r, 14),
     }
 }
 
@@ -86,8 +81,6 @@ pub fn mark_at(s: &[u8], i: usize) -> Mark
             year: 0,
             previous: 0,
             today: 0,
-            increment: 0,
-            padding: 0,
         }
     }
 }

@@ -36,7 +36,7 @@ make_makes l ms cs ps room = trip.made-exactly l ms cs ps room
 
 -- The checks, in their order.
 pub numbers_in_order : (l : Limits) (ms cs ps : List ℕ) (room : ℕ)
-    → map (number_of (making_checks ms cs ps l room)) (making_checks ms cs ps l room).order ≡ 2 ∷ 3 ∷ 4 ∷ 5 ∷ 18 ∷ 6 ∷ 7 ∷ 8 ∷ 9 ∷ 10 ∷ 11 ∷ 12 ∷ 13 ∷ 16 ∷ 17 ∷ []
+    → map (number_of (making_checks ms cs ps l room)) (making_checks ms cs ps l room).order ≡ 2 ∷ 3 ∷ 4 ∷ 5 ∷ 6 ∷ 7 ∷ 8 ∷ 9 ∷ 10 ∷ 11 ∷ 12 ∷ 13 ∷ 16 ∷ 17 ∷ []
 numbers_in_order l ms cs ps room = refl
 
 -- A list's count, by which 2 goes, is its length over the record's, rounded down.
@@ -83,25 +83,25 @@ module _ (ms cs ps out : List ℕ) {n : ℕ} (e : answer_of file_limits ms cs ps
   pub reading_made : (mark_bytes file (counts_of file) ≡ ms) × (correction_bytes file (counts_of file) ≡ cs) × (position_bytes file (counts_of file) ≡ ps)
   reading_made = let r = trip.reads ms cs ps out e in (r.marks, r.corrections, r.positions)
 
-  -- and it passes checks 1 to 13, 16 and 18.
+  -- and it passes checks 1 to 13 and 16.
   pub made_passes : judged_of file_limits file ≡ Passed (counts_of file) (resent_of (lists_of ms cs ps).corrections)
   unfolding judged_of
   made_passes = let r = trip.reads ms cs ps out e in rw (r.passed, r.corrections)
 
 -- ---- the longest file
 
--- No file that is made has more than 59,416 bytes,
-pub made-within : (ms cs ps out : List ℕ) {n : ℕ} → answer_of file_limits ms cs ps (length out) ≡ made n → n ≤ 59416
+-- No file that is made has more than 58,392 bytes,
+pub made-within : (ms cs ps out : List ℕ) {n : ℕ} → answer_of file_limits ms cs ps (length out) ≡ made n → n ≤ 58392
 made-within ms cs ps out e =
     rw (← (trip.made-decided file_limits ms cs ps (length out) e).1) (trip.longest ms cs ps (trip.fits ms cs ps out e).whole)
 
 -- and a buffer of as many is never too short.
-pub room_enough : (ms cs ps : List ℕ) (room : ℕ) → 59416 ≤ room → {i : ℕ} → answer_of file_limits ms cs ps room ≢ refused 17 i
+pub room_enough : (ms cs ps : List ℕ) (room : ℕ) → 58392 ≤ room → {i : ℕ} → answer_of file_limits ms cs ps room ≢ refused 17 i
 room_enough ms cs ps room enough = trip.room-enough ms cs ps room enough
 
 -- ---- a file made again
 
--- Making a file from the lists of a file of bytes that passes checks 1 to 13, 16 and 18, into any buffer at least as long, returns its length and
+-- Making a file from the lists of a file of bytes that passes checks 1 to 13 and 16, into any buffer at least as long, returns its length and
 -- its bytes; the other bytes stay.
 pub making_again : (f out : List ℕ) {c : DayFile} {resent : ℕ} → Bytes f → judged_of file_limits f ≡ Passed c resent → length f ≤ length out
     → let d = counts_of f in

@@ -13,7 +13,7 @@ use Rattle.numbers.specs.Order.{or_later}
 use Rattle.numbers.specs.Checks.{only, ◌before◌, decision_of}
 use Rattle.numbers.specs.declared.deciding.Decision.{Decision}
 use Rattle.numbers.specs.declared.deciding.Decision.TheVariants.{Met, Unmet}
-use Rattle.numbers.proofs.Truth.{Tells, not_both, tells_as, tells_or, tells_lt, tells_off, or_three, or_three_back}
+use Rattle.numbers.proofs.Truth.{Tells, not_both, tells_as, tells_or, tells_not, tells_lt, tells_divides, or_three, or_three_back}
 use Rattle.numbers.proofs.Checks.{Agree, agree_only, agree_before, refuses_exactly, passes_exactly, number_passes}
 use Rattle.numbers.proofs.Sections.{size_is}
 use Rattle.dayfile.specs.Limits.{Limits, file_limits}
@@ -42,8 +42,8 @@ tells_broken ms cs ps =
     let whole-positions = eqb (length ps % position_size) 0 in
     tells_as or_three or_three_back
     (tells_or (not whole-marks || not whole-corrections) (not whole-positions)
-    (tells_or (not whole-marks) (not whole-corrections) (tells_off mark_size (length ms)) (tells_off correction_size (length cs)))
-    (tells_off position_size (length ps)))
+    (tells_or (not whole-marks) (not whole-corrections) (tells_not whole-marks (tells_divides mark_size (length ms))) (tells_not whole-corrections (tells_divides correction_size (length cs))))
+    (tells_not whole-positions (tells_divides position_size (length ps))))
 
 module _ (l : Limits) (ms cs ps : List ℕ) (room : ℕ) where
   agrees : Agree (making_checks ms cs ps l room)
@@ -141,7 +141,7 @@ made_laid_out ms cs ps w =
       file-length = omega (arith, made-length ms cs ps d w, w.marks, w.corrections, w.positions);
     }
 
--- a file that passes checks 1 to 13, 16 and 18, and whose sections are these lists
+-- a file that passes checks 1 to 13 and 16, and whose sections are these lists
 pub record Reads (f ms cs ps : List ℕ) : Type 0 where
   pub marks : mark_bytes f (counts_of f) ≡ ms
   pub corrections : correction_bytes f (counts_of f) ≡ cs
@@ -194,14 +194,14 @@ makes_again f out b p room =
 
 -- ---- the longest file
 
--- 24 + 16 times 256 + 12 times (512 + 4,096) bytes
-pub longest : (ms cs ps : List ℕ) → WholeRecords ms cs ps (counts_in ms cs ps) → length (made_of ms cs ps) ≤ 59416
+-- 24 + 12 times (256 + 512 + 4,096) bytes
+pub longest : (ms cs ps : List ℕ) → WholeRecords ms cs ps (counts_in ms cs ps) → length (made_of ms cs ps) ≤ 58392
 longest ms cs ps w =
     let few = w.counts-within in
     omega (arith, made-length ms cs ps (counts_in ms cs ps) w, few.marks, few.corrections, few.positions)
 
 -- so that a buffer of as many bytes is never too short
-module _ (ms cs ps : List ℕ) (room : ℕ) (enough : 59416 ≤ room) where
+module _ (ms cs ps : List ℕ) (room : ℕ) (enough : 58392 ≤ room) where
   not_17 : (d : Decision) {i : ℕ} → d ≢ Met 17 i → or_later d Unmet ≢ Met 17 i
   not_17 (Met k j) n e = n e
   not_17 Unmet n e = n e

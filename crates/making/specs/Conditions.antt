@@ -23,7 +23,7 @@ module _ (ms cs ps : List ℕ) where
   room_check room =
       record { number = 17; Condition = λ i. room < length (made_of ms cs ps); test = λ i. ltb room (length (made_of ms cs ps)) }
 
-  -- all checks of the maker, in their order: 2, 3, 4, 5, 18, 6 to 13, 16, 17
+  -- all checks of the maker, in their order: 2, 3, 4 to 13, 16, 17
   abbrev pub making_checks : Limits → ℕ → Checks
   making_checks l room =
       only (too_many_records l (lists_of ms cs ps)) before only broken_list before record_checks (lists_of ms cs ps) before only (room_check room)

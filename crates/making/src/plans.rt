@@ -52,7 +52,7 @@ fn with_room(d: DayFile, room: usize) -> Plan
     Plan::File(d)
 }
 
-// Checks 2 and 3, then 4 to 13, 16 and 18, then 17, for a buffer of so many bytes.
+// Checks 2 and 3, then 4 to 13 and 16, then 17, for a buffer of so many bytes.
 pub(crate) fn plan_of(marks: &[u8], corrections: &[u8], positions: &[u8], room: usize) -> Plan
     ensures { result
         ≡ plan_of file_limits marks.now corrections.now positions.now room }

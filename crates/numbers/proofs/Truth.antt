@@ -99,9 +99,6 @@ tells_eq m n = record { yes = eqb-true m n; no = eqb-false m n }
 pub tells_divides : (t p : ℕ) → Tells (eqb (p % t) 0) (t ∣ p)
 tells_divides t p = tells_as (dvd_iff_mod-eq-zero t).1 (dvd_iff_mod-eq-zero t).0 (tells_eq (p % t) 0)
 
-pub tells_off : (t p : ℕ) → Tells (not (eqb (p % t) 0)) (¬ (t ∣ p))
-tells_off t p = tells_not (eqb (p % t) 0) (tells_divides t p)
-
 pub tells_less : (a b : ℤ) → Tells (lt_z a b) (a <ℤ b)
 tells_less a b = by_test (lt_z a b) refl
   where

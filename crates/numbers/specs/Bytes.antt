@@ -9,14 +9,6 @@ byte_at s i = slice_index s i
 abbrev pub Bytes : List ℕ → Type 0
 Bytes s = (i : ℕ) → byte_at s i < 256
 
--- two bytes, the lowest first
-abbrev pub paired : ℕ → ℕ → ℕ
-paired a b = a + 256 * b
-
--- the u16 at a place
-unfoldable pub u16_at : List ℕ → ℕ → ℕ
-u16_at s i = paired (byte_at s i) (byte_at s (i + 1))
-
 -- four bytes, the lowest first
 abbrev pub joined : ℕ → ℕ → ℕ → ℕ → ℕ
 joined a b c d = a + 256 * b + 65_536 * c + 16_777_216 * d

@@ -8,7 +8,7 @@ mod deciding;
 mod words;
 
 pub use deciding::{Decision, Wanted};
-pub use words::{as_signed, joined, paired};
+pub use words::{as_signed, joined};
 
 // An index, or nothing.
 #[derive(Drop)]

@@ -1,4 +1,4 @@
-// Numbers of 16 and 32 bits, from their bytes, and of 32 bits in two's complement.
+// Numbers of 32 bits, from four bytes and in two's complement.
 ghost use Rattle.std.specs.Prelude.{◌≡◌, ◌<◌};
 ghost use Rattle.numbers.specs.Bytes as bytes;
 
@@ -7,13 +7,6 @@ fn wide(x: u8) -> u32
     ensures { (result ≡ x) × (result < 256) }
 {
     x as u32
-}
-
-// Two bytes, the lowest first.
-pub fn paired(a: u8, b: u8) -> u16
-    ensures { result ≡ bytes.paired a b }
-{
-    (wide(a) + 256 * wide(b)) as u16
 }
 
 // Four bytes, the lowest first.

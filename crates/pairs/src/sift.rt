@@ -14,9 +14,6 @@ use crate::seeds::seed_of;
 // So often at most.
 const TURNS: u64 = 16;
 
-// The bytes of a record in the lists that are long.
-const TWELVE: usize = 12;
-
 // The first record that repeats another, or the number of all; how many are left, and whether the list has them all.
 #[derive(Drop)]
 pub struct Sifted {
@@ -82,8 +79,7 @@ fn sift_first(
     }
 }
 
-// Sifts them with a loop of its own for each width of keys, and for keys of eight bytes in records of TWELVE, in which a place is found by
-// a multiplication that the compiler knows.
+// Sifts them with a loop of its own for each width of keys.
 fn sift_once(
     records: &[u8],
     size: usize,
@@ -98,12 +94,7 @@ fn sift_once(
 {
     match key {
         Key::Four => sift_first(records, size, Key::Four, n, list, place, shift),
-        Key::Eight => {
-            if size == TWELVE {
-                return sift_first(records, TWELVE, Key::Eight, n, list, place, shift);
-            }
-            sift_first(records, size, Key::Eight, n, list, place, shift)
-        }
+        Key::Eight => sift_first(records, size, Key::Eight, n, list, place, shift),
     }
 }
 

@@ -50,39 +50,39 @@ bracket_close D k l b x Q face a hD hk hQ near room =
         → 1000 * (k * Q) * D + 2000 * face * (l * Q) ≤ D * k * (a * Q)
     p₃ D k l Q face a h = omega (arith, mul-le-mul_left Q h)
 
--- the accuracy figure a is large enough for these terms and this finest increment: a test that is computed
+-- the accuracy figure a is large enough for these terms and this tick: a test that is computed
 unfoldable pub Room : Terms → ℕ → ℕ → Type 0
-Room (Bill face days) finest a = T (leb 1000 a)
-Room (Bond face c n) finest a = T (leb 1 n) × T (leb (1000 * (scale * 2) + 2000 * (twice_distance c n * face)) (a * (scale * 2)))
-Room (CashRate cents) finest a = T (leb 1000 a || eqb (cents * finest % 100) 0)
+Room (Bill face days) tick a = T (leb 1000 a)
+Room (Bond face c n) tick a = T (leb 1 n) × T (leb (1000 * (scale * 2) + 2000 * (twice_distance c n * face)) (a * (scale * 2)))
+Room (CashRate cents) tick a = T (leb 1000 a || eqb (cents * tick % 100) 0)
 
--- where the increment's cents are whole, so are the price's
-whole_cents : (cents finest p : ℕ) → cents * finest % 100 ≡ 0 → p % finest ≡ 0 → cents * p ≡ cents * finest / 100 * (p / finest) * 100
-whole_cents cents finest p h k = core cents finest p (p / finest) (cents * finest / 100) (omega (arith, div-add-mod' p finest)) (omega arith)
+-- where the tick's cents are whole, so are the price's
+whole_cents : (cents tick p : ℕ) → cents * tick % 100 ≡ 0 → p % tick ≡ 0 → cents * p ≡ cents * tick / 100 * (p / tick) * 100
+whole_cents cents tick p h k = core cents tick p (p / tick) (cents * tick / 100) (omega (arith, div-add-mod' p tick)) (omega arith)
   where
-    core : (cents finest p d e : ℕ) → p ≡ d * finest → cents * finest ≡ e * 100 → cents * p ≡ e * d * 100
-    core cents finest p d e h k = rw h (omega (arith, ap (λ (t : ℕ). t * d) k))
+    core : (cents tick p d e : ℕ) → p ≡ d * tick → cents * tick ≡ e * 100 → cents * p ≡ e * d * 100
+    core cents tick p d e h k = rw h (omega (arith, ap (λ (t : ℕ). t * d) k))
 
--- by the terms, at a price on the finest increment
-pub terms_close : (t : Terms) (finest a : ℕ) {p : ℕ} → Room t finest a → p ≤ price_limit → p % finest ≡ 0 → Close 1000 a (value_by t p) (exact_by t p)
+-- by the terms, at a price on the tick
+pub terms_close : (t : Terms) (tick a : ℕ) {p : ℕ} → Room t tick a → p ≤ price_limit → p % tick ≡ 0 → Close 1000 a (value_by t p) (exact_by t p)
 unfolding value_by exact_by Room
-terms_close (Bill face days) finest a {p} r l h =
+terms_close (Bill face days) tick a {p} r l h =
     close_more (leb→le 1000 a r) (close_rounded 1000 (bill_dividend face) (bill_divisor days p) (bill_divisor_lem days p))
-terms_close (Bond face c n) finest a {p} r l h =
+terms_close (Bond face c n) tick a {p} r l h =
     bracket_close scale 2 (twice_distance c n) _ _ _ face a scale_positive (lit≤ tt) (one-le-pow n (bond_divisor p) (omega (arith, bond_divisor_lem l)))
     (ladder_distance scale c n (bond_divisor p) scale_positive (leb→le 1 n r.0) (bond_divisor_lem l).0)
     (leb→le (1000 * (scale * 2) + 2000 * (twice_distance c n * face)) (a * (scale * 2)) r.1)
-terms_close (CashRate cents) finest a {p} r l h = go (leb 1000 a) (eqb (cents * finest % 100) 0) (leb→le 1000 a) (eqb→eq (cents * finest % 100) 0) r
+terms_close (CashRate cents) tick a {p} r l h = go (leb 1000 a) (eqb (cents * tick % 100) 0) (leb→le 1000 a) (eqb→eq (cents * tick % 100) 0) r
   where
-    go : (b d : Bool) → (T b → 1000 ≤ a) → (T d → cents * finest % 100 ≡ 0) → T (b || d) → Close 1000 a (nearest (cents * p) 100) (record { num = cents * p; den = 100 })
+    go : (b d : Bool) → (T b → 1000 ≤ a) → (T d → cents * tick % 100 ≡ 0) → T (b || d) → Close 1000 a (nearest (cents * p) 100) (record { num = cents * p; den = 100 })
     go true d kb kd r = close_more (kb tt) (close_rounded 1000 (cents * p) 100 (lit≤ tt))
     go false true kb kd r =
-        close_more (omega arith) (close_whole 1000 (cents * p) 100 (cents * finest / 100 * (p / finest)) (lit≤ tt) (whole_cents cents finest p (kd tt) h))
+        close_more (omega arith) (close_whole 1000 (cents * p) 100 (cents * tick / 100 * (p / tick)) (lit≤ tt) (whole_cents cents tick p (kd tt) h))
     go false false kb kd r = absurd r
 
 -- every product's accuracy figure is large enough
 Roomy : Product → Type 0
-Roomy product = (previous final : ℕ) → Room product.terms product.finest (accuracy_of product.code previous final)
+Roomy product = (previous final : ℕ) → Room product.terms product.tick (accuracy_of product.code previous final)
 
 all_roomy : Every Roomy products
 unfolding Roomy Room products scale accuracy_of accuracy_figures number_in same_code_lem
@@ -92,7 +92,7 @@ pub product_close : (code : Code) {product : Product} → find code ≡ Named pr
     → Close 1000 (accuracy_of code previous final) (value_by product.terms p) (exact_by product.terms p)
 unfolding find Roomy
 product_close code {product} f previous final h =
-    terms_close product.terms product.finest _ (rw (← (found-code code f)) (of_found Roomy products code all_roomy f previous final)) h.within h.on-finest
+    terms_close product.terms product.tick _ (rw (← (found-code code f)) (of_found Roomy products code all_roomy f previous final)) h.within h.on-tick
 
 -- lots of a difference of two values
 pub product_accurate : (code : Code) (previous final : ℕ) {m n : ℕ} {product : Product} → find code ≡ Named product → Listed product previous → Listed product final

@@ -17,21 +17,21 @@ use Rattle.products.specs.declared.table.NamedProduct.TheVariants.{Named, Missin
 pub not-given : {A : Type 0} {k i n : ℕ} → refused k i ≡ given n → A
 not-given e = absurd (let z : ◌≡◌ {A = ℕ} 0 1 = cc in omega arith)
 
--- a price of a product: within the limit, and on the finest increment
+-- a price of a product: within the limit, and on the tick
 pub record Listed (product : Product) (p : ℕ) : Type 0 where
   pub within : p ≤ price_limit
-  pub on_finest : p % product.finest ≡ 0
+  pub on_tick : p % product.tick ≡ 0
 
 -- a check that is passed on the way to a number
 checked : (k : ℕ) (b : Bool) {a : Answer} {n : ℕ} → check k b a ≡ given n → (b ≡ true) × (a ≡ given n)
 checked k true e = (refl, e)
 checked k false e = not-given e
 
--- a number that is given after 6 and 7: the price is within the limit and on the finest increment
-pub after-price : (finest p : ℕ) {a : Answer} {n : ℕ} → at_price finest p a ≡ given n → (p ≤ price_limit) × (p % finest ≡ 0) × (a ≡ given n)
-after-price finest p e =
+-- a number that is given after 6 and 7: the price is within the limit and on the tick
+pub after-price : (tick p : ℕ) {a : Answer} {n : ℕ} → at_price tick p a ≡ given n → (p ≤ price_limit) × (p % tick ≡ 0) × (a ≡ given n)
+after-price tick p e =
     let (b, f) = checked 6 (leb p price_limit) e in
-    let (d, g) = checked 7 (eqb (p % finest) 0) f in
+    let (d, g) = checked 7 (eqb (p % tick) 0) f in
     (leb-true _ _ b, eqb-true _ _ d, g)
 
 -- an answer a given at a price of the product that a code names
@@ -41,16 +41,16 @@ pub record Priced (code : Code) (p : ℕ) (a : Product → Answer) (n : ℕ) : T
   pub listed : Listed product p
   pub answer : a product ≡ given n
 
-pub answered : (code : Code) (p : ℕ) (a : Product → Answer) {n : ℕ} → of_product (find code) (λ product. at_price product.finest p (a product)) ≡ given n → Priced code p a n
+pub answered : (code : Code) (p : ℕ) (a : Product → Answer) {n : ℕ} → of_product (find code) (λ product. at_price product.tick p (a product)) ≡ given n → Priced code p a n
 answered code p a {n} = of_found (find code) refl
   where
-    of_found : (f : NamedProduct) → find code ≡ f → of_product f (λ product. at_price product.finest p (a product)) ≡ given n → Priced code p a n
+    of_found : (f : NamedProduct) → find code ≡ f → of_product f (λ product. at_price product.tick p (a product)) ≡ given n → Priced code p a n
     of_found (Named product) f e =
-        let (w, t, g) = after-price product.finest p e in
-        record { product = product; found = f; listed = record { within = w; on_finest = t }; answer = g }
+        let (w, t, g) = after-price product.tick p e in
+        record { product = product; found = f; listed = record { within = w; on_tick = t }; answer = g }
     of_found Missing f e = not-given e
 
--- a value that is given is the product's, at a price within the limit and on the finest increment
+-- a value that is given is the product's, at a price within the limit and on the tick
 pub record Valued (code : Code) (p n : ℕ) : Type 0 where
   pub product : Product
   pub found : find code ≡ Named product
@@ -67,9 +67,9 @@ valued code p e =
 -- and the other way round
 pub gives-value : (code : Code) (p : ℕ) {product : Product} → find code ≡ Named product → Listed product p → value_of code p ≡ given (value_by product.terms p)
 unfolding value_of
-gives-value code p {product} f h = rw (f, le-leb p price_limit h.within, eq-eqb (p % product.finest) 0 h.on-finest)
+gives-value code p {product} f h = rw (f, le-leb p price_limit h.within, eq-eqb (p % product.tick) 0 h.on-tick)
 
--- a tick value that is given: the price is within the limit and on the finest increment, the next one is within the limit, and this is their values' difference
+-- a tick value that is given: the price is within the limit and on the tick, the next one is within the limit, and this is their values' difference
 pub tick-valued : (code : Code) (p : ℕ) {d : ℕ} {product : Product} → find code ≡ Named product → tick_value_of code p ≡ given d
     → Listed product p × (value_by product.terms (p + product.tick) - value_by product.terms p ≡ d) × (p + product.tick ≤ price_limit)
 unfolding tick_value_of

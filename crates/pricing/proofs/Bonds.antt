@@ -22,7 +22,7 @@ use Rattle.products.proofs.Finding.{Every, of_found, found-code}
 use Rattle.pricing.proofs.Bounds.{scale_positive, bond_divisor_lem}
 use Rattle.pricing.proofs.Answers.{Listed, not-given, after-price}
 
--- the bracket b of a bond at a price within the limit and on the finest increment
+-- the bracket b of a bond at a price within the limit and on the tick
 pub record Bracketed (code : Code) (p b : ℕ) : Type 0 where
   pub product : Product
   pub found : find code ≡ Named product
@@ -35,14 +35,14 @@ pub record Bracketed (code : Code) (p b : ℕ) : Type 0 where
 
 module _ (code : Code) (p : ℕ) {b : ℕ} where
   of_terms : (product : Product) → find code ≡ Named product → (t : Terms) → product.terms ≡ t
-      → of_bond t (λ c n. at_price product.finest p (given (bracket scale c n (bond_divisor p)))) ≡ given b → Bracketed code p b
+      → of_bond t (λ c n. at_price product.tick p (given (bracket scale c n (bond_divisor p)))) ≡ given b → Bracketed code p b
   of_terms product f (Bill face days) t e = not-given e
   of_terms product f (Bond face c n) t e =
-      let (w, m, is) = after-price product.finest p e in
+      let (w, m, is) = after-price product.tick p e in
       record {
         product = product;
         found = f;
-        listed = record { within = w; on_finest = m };
+        listed = record { within = w; on_tick = m };
         face = face;
         coupon = c;
         halves = n;
@@ -52,7 +52,7 @@ module _ (code : Code) (p : ℕ) {b : ℕ} where
   of_terms product f (CashRate cents) t e = not-given e
 
   of_lookup : (f : NamedProduct) → find code ≡ f
-      → of_product f (λ product. of_bond product.terms (λ c n. at_price product.finest p (given (bracket scale c n (bond_divisor p))))) ≡ given b → Bracketed code p b
+      → of_product f (λ product. of_bond product.terms (λ c n. at_price product.tick p (given (bracket scale c n (bond_divisor p))))) ≡ given b → Bracketed code p b
   of_lookup (Named product) f e = of_terms product f product.terms refl e
   of_lookup Missing f e = not-given e
 

@@ -19,14 +19,15 @@ use Rattle.pricing.proofs.TableLines.{modest_line}
 use Rattle.pricing.proofs.PriceChecks.{after, as_at_price, passed}
 
 -- terms and a tick of the table, at a price within the limit
-pub record FromTable (t : Terms) (tick p : ℕ) : Type 0 where
+pub record Allowed (t : Terms) (tick p : ℕ) : Type 0 where
   pub terms : Modest t
+  pub positive : 0 < tick
   pub low : tick ≤ 100
   pub within : p ≤ price_limit
 
 module _ (code : Code) (p : ℕ) {o : Checked} (is : o ≡ check_of code p) where
   -- an answer that goes by the product goes by what the checks leave
-  pub by_checked : (a : Terms → ℕ → Answer) {x : Checked} → o ≡ x → of_checked x a ≡ of_product (find code) (λ product. at_price product.finest p (a product.terms product.tick))
+  pub by_checked : (a : Terms → ℕ → Answer) {x : Checked} → o ≡ x → of_checked x a ≡ of_product (find code) (λ product. at_price product.tick p (a product.terms product.tick))
   unfolding check_of
   by_checked a e = rw (← e, is) (by_found (find code))
     where
@@ -34,8 +35,8 @@ module _ (code : Code) (p : ℕ) {o : Checked} (is : o ≡ check_of code p) wher
       by_outcome product Passed = refl
       by_outcome product (Failed k) = refl
 
-      by_found : (f : NamedProduct) → of_checked (check_in f p) a ≡ of_product f (λ product. at_price product.finest p (a product.terms product.tick))
-      by_found (Named product) = by_outcome product (price_checked product.finest p) ∙ as_at_price product.finest p (a product.terms product.tick)
+      by_found : (f : NamedProduct) → of_checked (check_in f p) a ≡ of_product f (λ product. at_price product.tick p (a product.terms product.tick))
+      by_found (Named product) = by_outcome product (price_checked product.tick p) ∙ as_at_price product.tick p (a product.terms product.tick)
       by_found Missing = refl
 
   module _ {t : Terms} {tick : ℕ} (e : o ≡ Product t tick) where
@@ -44,17 +45,17 @@ module _ (code : Code) (p : ℕ) {o : Checked} (is : o ≡ check_of code p) wher
     passes_product product (Failed k) g = absurd (let z : ◌≡◌ {A = ℕ} 0 1 = cc in omega arith)
 
     -- the product that was found
-    its_product : (product : table.Product) × (find code ≡ Named product) × (product.terms ≡ t) × (product.tick ≡ tick) × (price_checked product.finest p ≡ Passed)
+    its_product : (product : table.Product) × (find code ≡ Named product) × (product.terms ≡ t) × (product.tick ≡ tick) × (price_checked tick p ≡ Passed)
     unfolding check_of
     its_product = by_found (find code) refl (sym is ∙ e)
       where
         by_found : (f : NamedProduct) → find code ≡ f → check_in f p ≡ Product t tick
-            → (product : table.Product) × (find code ≡ Named product) × (product.terms ≡ t) × (product.tick ≡ tick) × (price_checked product.finest p ≡ Passed)
-        by_found (Named product) d g = let (a, b, j) = passes_product product (price_checked product.finest p) g in (product, d, a, b, j)
+            → (product : table.Product) × (find code ≡ Named product) × (product.terms ≡ t) × (product.tick ≡ tick) × (price_checked tick p ≡ Passed)
+        by_found (Named product) d g = let (a, b, j) = passes_product product (price_checked product.tick p) g in (product, d, a, b, rw b at j)
         by_found Missing d g = absurd (let z : ◌≡◌ {A = ℕ} 0 1 = cc in omega arith)
 
-    pub from_table : FromTable t tick p
-    from_table =
+    pub allowed : Allowed t tick p
+    allowed =
         let (product, d, a, b, j) = its_product in
         let s = modest_line code (sym d) refl in
-        record { terms = rw a at s.terms; low = rw b at s.low; within = (passed product.finest p (sym j) refl).0 }
+        record { terms = rw a at s.terms; positive = rw b at s.tick; low = rw b at s.low; within = (passed tick p (sym j) refl).0 }

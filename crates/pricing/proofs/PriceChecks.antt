@@ -19,10 +19,10 @@ abbrev pub after : PriceChecked → Answer → Answer
 after Passed a = a
 after (Failed k) a = refused k 0
 
-module _ (finest p : ℕ) where
-  pub as_at_price : (a : Answer) → after (price_checked finest p) a ≡ at_price finest p a
+module _ (tick p : ℕ) where
+  pub as_at_price : (a : Answer) → after (price_checked tick p) a ≡ at_price tick p a
   unfolding price_checked
-  as_at_price a = by_tests (leb p price_limit) (eqb (p % finest) 0)
+  as_at_price a = by_tests (leb p price_limit) (eqb (p % tick) 0)
     where
       by_tests : (b d : Bool) → after (cond b (cond d Passed (Failed 7)) (Failed 6)) a ≡ check 6 b (check 7 d a)
       by_tests true true = refl
@@ -34,17 +34,17 @@ module _ (finest p : ℕ) where
   both true false e = not_passed e
   both false d e = not_passed e
 
-  -- a price that passes is within the limit and on the finest increment
-  pub passed : {checked : PriceChecked} → checked ≡ price_checked finest p → checked ≡ Passed → (p ≤ price_limit) × (p % finest ≡ 0)
+  -- a price that passes is within the limit and on the tick
+  pub passed : {checked : PriceChecked} → checked ≡ price_checked tick p → checked ≡ Passed → (p ≤ price_limit) × (p % tick ≡ 0)
   unfolding price_checked
   passed d e =
-      let (f, g) = both (leb p price_limit) (eqb (p % finest) 0) (sym d ∙ e) in
+      let (f, g) = both (leb p price_limit) (eqb (p % tick) 0) (sym d ∙ e) in
       (leb-true _ _ f, eqb-true _ _ g)
 
 -- the answer to a price that passes, and to one that fails
-module _ (finest p : ℕ) {checked : PriceChecked} (is : checked ≡ price_checked finest p) where
-  pub passes : {v w : ℕ} → checked ≡ Passed → v ≡ w → given v ≡ at_price finest p (given w)
-  passes {w = w} e g = rw (← (as_at_price finest p (given w)), ← is, e, g)
+module _ (tick p : ℕ) {checked : PriceChecked} (is : checked ≡ price_checked tick p) where
+  pub passes : {v w : ℕ} → checked ≡ Passed → v ≡ w → given v ≡ at_price tick p (given w)
+  passes {w = w} e g = rw (← (as_at_price tick p (given w)), ← is, e, g)
 
-  pub fails : {k : ℕ} (a : Answer) → checked ≡ Failed k → refused k 0 ≡ at_price finest p a
-  fails a e = rw (← (as_at_price finest p a), ← is, e)
+  pub fails : {k : ℕ} (a : Answer) → checked ≡ Failed k → refused k 0 ≡ at_price tick p a
+  fails a e = rw (← (as_at_price tick p a), ← is, e)

@@ -2,7 +2,7 @@
 use mathlib.Core.List.{[], ◌∷◌, map}
 use mathlib.Core.Path.{◌≡◌, refl, sym, ap, ◌∙◌}
 use Prim.Native.Nat.{ℕ, suc, ◌+◌, ◌*◌, ◌-◌, ◌%◌, ◌^◌, ◌≤◌, ◌<◌}
-use native.Mathlib.Nat.{dvd-add, dvd_of_mod-eq-zero, mod-eq-zero_of_dvd}
+use native.Mathlib.Nat.{add-mod_right}
 use native.Mathlib.Omega.{arith}
 use lib.Dec.{lit≤}
 use lib.IntN.{ℤ, pos, nat_abs, ◌*ℤ◌, ◌-ℤ◌}
@@ -11,7 +11,6 @@ use Rattle.numbers.specs.Nearness.{Near}
 use Rattle.numbers.specs.Fractions.{scaled, ◌minus◌, ◌times◌, Within, Same}
 use Rattle.numbers.proofs.Rounding.{nearest-scale, half_up}
 use Rattle.products.specs.Products.{price_limit, YT, XT, XX, products, same_code_lem, find}
-use Rattle.products.proofs.Listing.{finest_divides}
 use Rattle.pricing.specs.Prices.{yield_at}
 use Rattle.numbers.specs.Sums.{sum_to}
 use Rattle.pricing.specs.Ladder.{base, factor, annuity, bracket, exact_bracket, whole_bracket}
@@ -100,18 +99,15 @@ value_rises code {p} {p'} l e e' =
     let s : h'.product ≡ h.product = let f = h.found in let f' = h'.found in cc in
     rw (← h.is, ← h'.is, s) (value_by_rises h.product.terms l h'.listed.within)
 
--- So a tick value is what the next value has more: the subtraction of naturals in its definition cuts nothing off. The next price is
--- one of the product's, since its finest increment divides the tick.
+-- So a tick value is what the next value has more: the subtraction of naturals in its definition cuts nothing off.
 pub tick_value_adds : (code : Code) (p : ℕ) {d : ℕ} {product : Product} → find code ≡ Named product → tick_value_of code p ≡ given d
     → (m : ℕ) × (value_of code p ≡ given m) × (value_of code (p + product.tick) ≡ given (m + d))
 tick_value_adds code p {product = product} f e =
     let (h, d, g) = tick-valued code p f e in
-    let finest = product.finest in
-    let next-on : (p + product.tick) % finest ≡ 0 = mod-eq-zero_of_dvd finest (dvd-add finest (dvd_of_mod-eq-zero finest h.on-finest) (finest_divides code f)) in
     let r = value_by_rises product.terms {p = p} {p' = p + product.tick} (omega arith) g in (
       value_by product.terms p,
       gives-value code p f h,
-      gives-value code (p + product.tick) f (record { within = g; on_finest = next-on }) ∙ ap given (omega arith),
+      gives-value code (p + product.tick) f (record { within = g; on_tick = add-mod_right p product.tick ∙ h.on-tick }) ∙ ap given (omega arith),
     )
 
 -- ---- the exact value: the formula without any rounding
@@ -175,9 +171,9 @@ value_cap_lem code p e =
 
 -- ---- the formulas in document 01's numbers
 
--- A value is given for each code of the table at each price within the limit and on the finest increment.
-pub value_given : (code : Code) {product : Product} {p : ℕ} → find code ≡ Named product → p ≤ price_limit → p % product.finest ≡ 0 → value_of code p ≡ given (value_by product.terms p)
-value_given code {p = p} f l t = gives-value code p f (record { within = l; on_finest = t })
+-- A value is given for each code of the table at each price within the limit and on the tick.
+pub value_given : (code : Code) {product : Product} {p : ℕ} → find code ≡ Named product → p ≤ price_limit → p % product.tick ≡ 0 → value_of code p ≡ given (value_by product.terms p)
+value_given code {p = p} f l t = gives-value code p f (record { within = l; on_tick = t })
 
 -- A bill: 3,650,000,000,000,000 divided by (36,500,000 + 9 times Y), rounded once.
 pub bill_formula : (p : ℕ) → value_by (Bill 1_000_000 90) p ≡ nearest 3_650_000_000_000_000 (36_500_000 + 9 * yield_at p)

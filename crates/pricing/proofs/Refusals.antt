@@ -11,13 +11,13 @@ use Rattle.numbers.specs.declared.deciding.Decision.{Decision}
 use Rattle.numbers.specs.declared.deciding.Decision.TheVariants.{Met, Unmet}
 use Rattle.numbers.specs.declared.Found as found
 use Rattle.numbers.specs.declared.Found.TheVariants as index
-use Rattle.numbers.proofs.Truth.{Tells, not_both, tells_above, tells_off}
+use Rattle.numbers.proofs.Truth.{Tells, not_both, tells_not, tells_above, tells_divides}
 use Rattle.numbers.proofs.Order.{Finds, finds_whole, met_exactly, clear_exactly}
 use Rattle.products.specs.Products.{price_limit, find}
 use Rattle.pricing.specs.Ladder.{bracket}
 use Rattle.pricing.specs.Value.{scale, bond_divisor, value_by}
 use Rattle.pricing.specs.Calls.{Answer, given, refused, check, of_product, of_bond, at_price, value_of, tick_value_of, bracket_of}
-use Rattle.pricing.specs.Conditions.{ContractCheck, NoProduct, NoBond, AboveLimit, OffFinest, NextAboveLimit, check_number, HoldsAt, value_checks, tick_value_checks, bracket_checks, Exactly}
+use Rattle.pricing.specs.Conditions.{ContractCheck, NoProduct, NoBond, AboveLimit, OffTick, NextAboveLimit, check_number, HoldsAt, value_checks, tick_value_checks, bracket_checks, Exactly}
 use Rattle.products.specs.declared.table.Code.{Code}
 use Rattle.products.specs.declared.table.Product.{Product}
 use Rattle.products.specs.declared.table.NamedProduct.{NamedProduct}
@@ -41,9 +41,9 @@ abbrev no_bond : NamedProduct → Bool
 no_bond (Named product) = not (is_bond product.terms)
 no_bond Missing = true
 
-abbrev off_finest : NamedProduct → ℕ → Bool
-off_finest (Named product) p = not (eqb (p % product.finest) 0)
-off_finest Missing p = false
+abbrev off_tick : NamedProduct → ℕ → Bool
+off_tick (Named product) p = not (eqb (p % product.tick) 0)
+off_tick Missing p = false
 
 abbrev next_above : NamedProduct → ℕ → Bool
 next_above (Named product) p = not (leb (p + product.tick) price_limit)
@@ -53,7 +53,7 @@ abbrev test_of : NamedProduct → ℕ → ContractCheck → Bool
 test_of f p NoProduct = missing f
 test_of f p NoBond = no_bond f
 test_of f p AboveLimit = not (leb p price_limit)
-test_of f p OffFinest = off_finest f p
+test_of f p OffTick = off_tick f p
 test_of f p NextAboveLimit = next_above f p
 
 abbrev finding : NamedProduct → ℕ → ContractCheck → found.Found
@@ -82,9 +82,9 @@ module _ (code : Code) (p : ℕ) where
   finds NoProduct = finds_whole (missing (find code)) (tells_unlisted code missing (λ product. refl) refl)
   finds NoBond = finds_whole (no_bond (find code)) (tells_no_bond (find code) refl)
   finds AboveLimit = finds_whole (not (leb p price_limit)) (tells_above p price_limit)
-  finds OffFinest =
-      finds_whole (off_finest (find code) p)
-      (tells_product code (λ f. off_finest f p) {A = λ product. ¬ (product.finest ∣ p)} (λ product. tells_off product.finest p) refl)
+  finds OffTick =
+      finds_whole (off_tick (find code) p)
+      (tells_product code (λ f. off_tick f p) {A = λ product. ¬ (product.tick ∣ p)} (λ product. tells_not (eqb (p % product.tick) 0) (tells_divides product.tick p)) refl)
   finds NextAboveLimit =
       finds_whole (next_above (find code) p)
       (tells_product code (λ f. next_above f p) {A = λ product. price_limit < p + product.tick} (λ product. tells_above (p + product.tick) price_limit) refl)
@@ -128,32 +128,32 @@ abbrev bracket_in : ℕ → NamedProduct → ℕ
 bracket_in p (Named product) = bracket_by p product.terms
 bracket_in p Missing = 0
 
-by_value : (f : NamedProduct) (p : ℕ) → of_product f (λ product. at_price product.finest p (given (value_by product.terms p))) ≡ answer_by (decide f p value_checks) (given (value_in p f))
+by_value : (f : NamedProduct) (p : ℕ) → of_product f (λ product. at_price product.tick p (given (value_by product.terms p))) ≡ answer_by (decide f p value_checks) (given (value_in p f))
 by_value Missing p = refl
-by_value (Named product) p = by_price (leb p price_limit) (eqb (p % product.finest) 0) (given (value_by product.terms p)) Unmet
+by_value (Named product) p = by_price (leb p price_limit) (eqb (p % product.tick) 0) (given (value_by product.terms p)) Unmet
 
 by_tick_value : (f : NamedProduct) (p : ℕ)
-    → of_product f (λ product. at_price product.finest p (check 15 (leb (p + product.tick) price_limit) (given (value_by product.terms (p + product.tick) - value_by product.terms p))))
+    → of_product f (λ product. at_price product.tick p (check 15 (leb (p + product.tick) price_limit) (given (value_by product.terms (p + product.tick) - value_by product.terms p))))
     ≡ answer_by (decide f p tick_value_checks) (given (tick_value_in p f))
 by_tick_value Missing p = refl
 by_tick_value (Named product) p =
     let a = given (value_by product.terms (p + product.tick) - value_by product.terms p) in
-    ap (at_price product.finest p) (by_next (leb (p + product.tick) price_limit) a)
-    ∙ by_price (leb p price_limit) (eqb (p % product.finest) 0) a (pick (cond (not (leb (p + product.tick) price_limit)) (index.At 0) index.Nothing) 15 Unmet)
+    ap (at_price product.tick p) (by_next (leb (p + product.tick) price_limit) a)
+    ∙ by_price (leb p price_limit) (eqb (p % product.tick) 0) a (pick (cond (not (leb (p + product.tick) price_limit)) (index.At 0) index.Nothing) 15 Unmet)
 
 by_bracket : (f : NamedProduct) (p : ℕ)
-    → of_product f (λ product. of_bond product.terms (λ c n. at_price product.finest p (given (bracket scale c n (bond_divisor p)))))
+    → of_product f (λ product. of_bond product.terms (λ c n. at_price product.tick p (given (bracket scale c n (bond_divisor p)))))
     ≡ answer_by (decide f p bracket_checks) (given (bracket_in p f))
 by_bracket Missing p = refl
 by_bracket (Named product) p = by_terms product.terms
   where
-    by_terms : (t : Terms) → of_bond t (λ c n. at_price product.finest p (given (bracket scale c n (bond_divisor p))))
+    by_terms : (t : Terms) → of_bond t (λ c n. at_price product.tick p (given (bracket scale c n (bond_divisor p))))
         ≡ answer_by (pick (cond (not (is_bond t)) (index.At 0) index.Nothing) 4
         (pick (cond (not (leb p price_limit)) (index.At 0) index.Nothing) 6
-        (pick (cond (not (eqb (p % product.finest) 0)) (index.At 0) index.Nothing) 7 Unmet))) (given (bracket_by p t))
+        (pick (cond (not (eqb (p % product.tick) 0)) (index.At 0) index.Nothing) 7 Unmet))) (given (bracket_by p t))
     by_terms (Bill face days) = refl
     by_terms (CashRate cents) = refl
-    by_terms (Bond face c n) = by_price (leb p price_limit) (eqb (p % product.finest) 0) (given (bracket scale c n (bond_divisor p))) Unmet
+    by_terms (Bond face c n) = by_price (leb p price_limit) (eqb (p % product.tick) 0) (given (bracket scale c n (bond_divisor p))) Unmet
 
 -- ---- exactly
 

@@ -55,23 +55,23 @@ bonds_are face coupon n p a b =
     record { entry = λ i g. b.entry i g ∙ ap (λ (x : ℕ). nearest (x * face) scale) (rung_bracket (get_or p i 0) n coupon (a.entry i g) refl) }
 
 -- where no price fails
-module _ (finest : ℕ) (p : List ℕ) {r : Bool} (is : r ≡ some (λ i. is_failed (price_checked finest (get_or p i 0))) lanes) (none : r ≡ false) where
-  passes : (i : ℕ) → i < lanes → price_checked finest (get_or p i 0) ≡ Passed
-  passes i g = go (price_checked finest (get_or p i 0)) refl (some_clear (λ k. is_failed (price_checked finest (get_or p k 0))) lanes i (sym is ∙ none) g)
+module _ (tick : ℕ) (p : List ℕ) {r : Bool} (is : r ≡ some (λ i. is_failed (price_checked tick (get_or p i 0))) lanes) (none : r ≡ false) where
+  passes : (i : ℕ) → i < lanes → price_checked tick (get_or p i 0) ≡ Passed
+  passes i g = go (price_checked tick (get_or p i 0)) refl (some_clear (λ k. is_failed (price_checked tick (get_or p k 0))) lanes i (sym is ∙ none) g)
     where
-      go : (checked : PriceChecked) → price_checked finest (get_or p i 0) ≡ checked → is_failed checked ≡ false → price_checked finest (get_or p i 0) ≡ Passed
+      go : (checked : PriceChecked) → price_checked tick (get_or p i 0) ≡ checked → is_failed checked ≡ false → price_checked tick (get_or p i 0) ≡ Passed
       go Passed e f = e
       go (Failed k) e f = not_both refl f
 
   pub all_within : Within p
-  all_within = record { lane = λ i g. (passed finest (get_or p i 0) (sym (passes i g)) refl).0 }
+  all_within = record { lane = λ i g. (passed tick (get_or p i 0) (sym (passes i g)) refl).0 }
 
-  pub all_values : (t : Terms) {v : List ℕ} → Filled 0 (λ i. value_by t (get_or p i 0)) lanes v → Filled 0 (λ i. if_passed (price_checked finest (get_or p i 0)) (value_by t (get_or p i 0))) lanes v
+  pub all_values : (t : Terms) {v : List ℕ} → Filled 0 (λ i. value_by t (get_or p i 0)) lanes v → Filled 0 (λ i. if_passed (price_checked tick (get_or p i 0)) (value_by t (get_or p i 0))) lanes v
   all_values t b = record { entry = λ i g. b.entry i g ∙ rw (passes i g) }
 
 -- a value by the product's terms is the call's
-pub value_if_passed-is : (t : Terms) (finest p : ℕ) → if_passed (price_checked finest p) (value_by t p) ≡ or_zero (at_price finest p (given (value_by t p)))
-value_if_passed-is t finest p = by_outcome (price_checked finest p) ∙ ap or_zero (as_at_price finest p (given (value_by t p)))
+pub value_if_passed-is : (t : Terms) (tick p : ℕ) → if_passed (price_checked tick p) (value_by t p) ≡ or_zero (at_price tick p (given (value_by t p)))
+value_if_passed-is t tick p = by_outcome (price_checked tick p) ∙ ap or_zero (as_at_price tick p (given (value_by t p)))
   where
     by_outcome : (checked : PriceChecked) → if_passed checked (value_by t p) ≡ or_zero (after checked (given (value_by t p)))
     by_outcome Passed = refl
@@ -79,11 +79,11 @@ value_if_passed-is t finest p = by_outcome (price_checked finest p) ∙ ap or_ze
 
 module _ (code : Code) (p : List ℕ) {o : NamedProduct} (is : o ≡ find code) where
   pub values_are : (product : Product) {w : List ℕ} → o ≡ Named product → length w ≡ lanes
-      → Filled 0 (λ i. if_passed (price_checked product.finest (get_or p i 0)) (value_by product.terms (get_or p i 0))) lanes w
+      → Filled 0 (λ i. if_passed (price_checked product.tick (get_or p i 0)) (value_by product.terms (get_or p i 0))) lanes w
       → w ≡ values_or_zero code p
   unfolding value_of values_or_zero
   values_are product e n a =
-      filled-table {f = λ i. or_zero (value_of code (get_or p i 0))} n (record { entry = λ i g. a.entry i g ∙ rw (← is, e) (value_if_passed-is product.terms product.finest (get_or p i 0)) })
+      filled-table {f = λ i. or_zero (value_of code (get_or p i 0))} n (record { entry = λ i g. a.entry i g ∙ rw (← is, e) (value_if_passed-is product.terms product.tick (get_or p i 0)) })
 
   pub no_values : o ≡ Missing → replicate lanes 0 ≡ values_or_zero code p
   unfolding value_of values_or_zero

@@ -13,6 +13,7 @@ use Rattle.products.proofs.Finding.{Every, of_found}
 -- modest terms and a tick
 pub record ModestLine (product : Product) : Type 0 where
   pub terms : Modest product.terms
+  pub tick : 0 < product.tick
   pub low : product.tick ≤ 100
 
 all_modest : Every ModestLine products

@@ -32,9 +32,9 @@ abbrev pub of_product : NamedProduct → (Product → Answer) → Answer
 of_product (Named product) f = f product
 of_product Missing f = refused 4 0
 
--- checks 6 and 7 of a price, the latter by the product's finest increment, then the answer a
+-- checks 6 and 7 of a price, then the answer a
 abbrev pub at_price : ℕ → ℕ → Answer → Answer
-at_price finest p a = check 6 (leb p price_limit) (check 7 (eqb (p % finest) 0) a)
+at_price tick p a = check 6 (leb p price_limit) (check 7 (eqb (p % tick) 0) a)
 
 -- the number of an answer, 0 where the call is refused
 abbrev pub or_zero : Answer → ℕ
@@ -43,7 +43,7 @@ or_zero (refused k i) = 0
 
 -- the value of one contract in cents
 unfoldable pub value_of : Code → ℕ → Answer
-value_of code p = of_product (find code) (λ product. at_price product.finest p (given (value_by product.terms p)))
+value_of code p = of_product (find code) (λ product. at_price product.tick p (given (value_by product.terms p)))
 
 -- how many prices are asked for at once
 abbrev pub lanes : ℕ
@@ -57,7 +57,7 @@ values_or_zero code p = table (λ i. or_zero (value_of code (get_or p i 0))) lan
 unfoldable pub tick_value_of : Code → ℕ → Answer
 tick_value_of code p =
     of_product (find code)
-    (λ product. at_price product.finest p
+    (λ product. at_price product.tick p
     (check 15 (leb (p + product.tick) price_limit) (given (value_by product.terms (p + product.tick) - value_by product.terms p))))
 
 -- the answer of a bond's half coupon and half years; other terms are refused with 4
@@ -70,4 +70,4 @@ of_bond (CashRate cents) f = refused 4 0
 unfoldable pub bracket_of : Code → ℕ → Answer
 bracket_of code p =
     of_product (find code)
-    (λ product. of_bond product.terms (λ c n. at_price product.finest p (given (bracket scale c n (bond_divisor p)))))
+    (λ product. of_bond product.terms (λ c n. at_price product.tick p (given (bracket scale c n (bond_divisor p)))))

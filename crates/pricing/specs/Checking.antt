@@ -14,7 +14,7 @@ use Rattle.pricing.specs.declared.contract.Checked.TheVariants as checked
 
 -- checks 6 and 7 of a price
 unfoldable pub price_checked : ℕ → ℕ → PriceChecked
-price_checked finest p = cond (leb p price_limit) (cond (eqb (p % finest) 0) Passed (Failed 7)) (Failed 6)
+price_checked tick p = cond (leb p price_limit) (cond (eqb (p % tick) 0) Passed (Failed 7)) (Failed 6)
 
 -- checks 6 and 7 of a price of the product
 abbrev pub checked_product : Product → PriceChecked → Checked
@@ -23,7 +23,7 @@ checked_product product (Failed k) = checked.Refused k
 
 -- check 4 before them
 abbrev pub check_in : NamedProduct → ℕ → Checked
-check_in (Named product) p = checked_product product (price_checked product.finest p)
+check_in (Named product) p = checked_product product (price_checked product.tick p)
 check_in Missing p = checked.Refused 4
 
 unfoldable pub check_of : Code → ℕ → Checked

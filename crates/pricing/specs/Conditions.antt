@@ -14,14 +14,14 @@ pub data ContractCheck : Type 0 where
   NoProduct : ContractCheck
   NoBond : ContractCheck
   AboveLimit : ContractCheck
-  OffFinest : ContractCheck
+  OffTick : ContractCheck
   NextAboveLimit : ContractCheck
 
 abbrev pub check_number : ContractCheck → ℕ
 check_number NoProduct = 4
 check_number NoBond = 4
 check_number AboveLimit = 6
-check_number OffFinest = 7
+check_number OffTick = 7
 check_number NextAboveLimit = 15
 
 -- the condition of a check; a single-contract call has the index 0
@@ -32,20 +32,20 @@ HoldsAt code p NoProduct i = (i ≡ 0) × Unlisted code
 HoldsAt code p NoBond i = (i ≡ 0) × ((product : Product) → find code ≡ Named product → (face c n : ℕ) → ¬ (product.terms ≡ Bond face c n))
 -- 6: the price is above 1,000,000
 HoldsAt code p AboveLimit i = (i ≡ 0) × (price_limit < p)
--- 7: the price is not a multiple of the product's finest increment
-HoldsAt code p OffFinest i = (i ≡ 0) × ((product : Product) × (find code ≡ Named product) × ¬ (product.finest ∣ p))
+-- 7: the price is not a multiple of the product's tick
+HoldsAt code p OffTick i = (i ≡ 0) × ((product : Product) × (find code ≡ Named product) × ¬ (product.tick ∣ p))
 -- 15: p + tick is above 1,000,000
 HoldsAt code p NextAboveLimit i = (i ≡ 0) × ((product : Product) × (find code ≡ Named product) × (price_limit < p + product.tick))
 
 -- the checks of each call, in their order
 abbrev pub value_checks : List ContractCheck
-value_checks = NoProduct ∷ AboveLimit ∷ OffFinest ∷ []
+value_checks = NoProduct ∷ AboveLimit ∷ OffTick ∷ []
 
 abbrev pub tick_value_checks : List ContractCheck
-tick_value_checks = NoProduct ∷ AboveLimit ∷ OffFinest ∷ NextAboveLimit ∷ []
+tick_value_checks = NoProduct ∷ AboveLimit ∷ OffTick ∷ NextAboveLimit ∷ []
 
 abbrev pub bracket_checks : List ContractCheck
-bracket_checks = NoBond ∷ AboveLimit ∷ OffFinest ∷ []
+bracket_checks = NoBond ∷ AboveLimit ∷ OffTick ∷ []
 
 -- An answer is the refusal k at i exactly where condition k is the first of its checks that holds, at i;
 -- and a number exactly where none holds.

@@ -55,8 +55,7 @@ figures =
     ∷ (value_at IR 1_000_001 gives refused 6 0)
     ∷ []
 
--- Figures that document 01 does not mark, worked by the calculator: a longer ladder, each product's tick, the order of the checks, and
--- prices of XT and XX off the tick and on the finest increment. XT at 999,975 is half a cent above 15,996,712.
+-- Figures that document 01 does not mark, worked by the calculator: a longer ladder, each product's tick, and the order of the checks.
 unfoldable pub further : List Figure
 further =
     (bracket_at XT 950_000 gives given 10_779_458_755)
@@ -70,15 +69,6 @@ further =
     ∷ (tick_value_at IR 999_900 gives given 2_466)
     ∷ (tick_value_at IR 999_950 gives refused 7 0)
     ∷ (bracket_at IR 1_000_001 gives refused 4 0)
-    ∷ (value_at XT 950_025 gives given 10_781_498)
-    ∷ (tick_value_at XT 950_025 gives given 4_084)
-    ∷ (value_at XT 999_975 gives given 15_996_713)
-    ∷ (tick_value_at XT 999_975 gives refused 15 0)
-    ∷ (value_at XT 950_010 gives refused 7 0)
-    ∷ (bracket_at XX 955_025 gives given 9_348_297_284)
-    ∷ (value_at XX 955_025 gives given 4_674_149)
-    ∷ (tick_value_at XX 955_025 gives given 3_135)
-    ∷ (value_at YT 950_025 gives refused 7 0)
     ∷ []
 
 -- the definitions give each figure

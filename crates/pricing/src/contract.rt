@@ -1,5 +1,5 @@
 // The calls on one contract. Each answers for any code and any price.
-ghost use Rattle.std.specs.Prelude.{◌≡◌};
+ghost use Rattle.std.specs.Prelude.{◌≡◌, ◌<◌};
 ghost use Rattle.pricing.specs.Ladder.{bracket};
 ghost use Rattle.pricing.specs.Value.{scale, bond_divisor, value_by};
 ghost use Rattle.pricing.specs.Sizes.{Modest};
@@ -8,7 +8,7 @@ ghost use Rattle.pricing.specs.Checking.{price_checked, check_of};
 
 use crate::ladder::bracket_at;
 use crate::values::{bill_at, bond_at, cash_at, two_at};
-use products::{Code, NamedProduct, PRICE_LIMIT, Terms, lookup, off_increment};
+use products::{Code, NamedProduct, PRICE_LIMIT, Terms, lookup, off_tick};
 
 // The number asked for, or the number of the check that turns the call away.
 #[derive(Drop)]
@@ -17,20 +17,20 @@ pub enum Priced {
     Refused(u32),
 }
 
-// Whether a price passes checks 6 and 7, the latter by the product's finest increment, or the number of the first that it fails.
+// Whether a price passes checks 6 and 7, or the number of the first that it fails.
 #[derive(Drop)]
 pub enum PriceChecked {
     Passed,
     Failed(u32),
 }
 
-pub(crate) fn check_price(finest: u32, p: u32) -> PriceChecked
-    ensures { result ≡ price_checked finest p }
+pub(crate) fn check_price(tick: u32, p: u32) -> PriceChecked
+    ensures { result ≡ price_checked tick p }
 {
     if PRICE_LIMIT < p {
         return PriceChecked::Failed(6);
     }
-    if off_increment(p, finest) {
+    if off_tick(p, tick) {
         return PriceChecked::Failed(7);
     }
     PriceChecked::Passed
@@ -47,7 +47,7 @@ fn check(code: Code, p: u32) -> Checked
     ensures { result ≡ check_of code p }
 {
     match lookup(code) {
-        NamedProduct::Named(product) => match check_price(product.finest, p) {
+        NamedProduct::Named(product) => match check_price(product.tick, p) {
             PriceChecked::Passed => {
                 let t = product.terms;
                 Checked::Product {
@@ -62,12 +62,12 @@ fn check(code: Code, p: u32) -> Checked
 }
 
 // The value by the terms, after checks 6 and 7. The terms come first, so that each kind's constants are known where its formula is worked.
-fn value_by(t: Terms, finest: u32, p: u32) -> Priced
+fn value_by(t: Terms, tick: u32, p: u32) -> Priced
     requires { Modest t }
-    ensures { said result ≡ at_price finest p (given (value_by t p)) }
+    ensures { said result ≡ at_price tick p (given (value_by t p)) }
 {
     match t {
-        Terms::Bill { face, days } => match check_price(finest, p) {
+        Terms::Bill { face, days } => match check_price(tick, p) {
             PriceChecked::Passed => Priced::Given(bill_at(face, days, p as u64)),
             PriceChecked::Failed(k) => Priced::Refused(k),
         },
@@ -75,11 +75,11 @@ fn value_by(t: Terms, finest: u32, p: u32) -> Priced
             face,
             coupon,
             halves,
-        } => match check_price(finest, p) {
+        } => match check_price(tick, p) {
             PriceChecked::Passed => Priced::Given(bond_at(face, coupon, halves, p as u64)),
             PriceChecked::Failed(k) => Priced::Refused(k),
         },
-        Terms::CashRate { cents } => match check_price(finest, p) {
+        Terms::CashRate { cents } => match check_price(tick, p) {
             PriceChecked::Passed => Priced::Given(cash_at(cents, p as u64)),
             PriceChecked::Failed(k) => Priced::Refused(k),
         },
@@ -93,7 +93,7 @@ pub fn value(code: Code, p: u32) -> Priced
     match lookup(code) {
         NamedProduct::Named(product) => {
             let t = product.terms;
-            value_by(t, product.finest, p)
+            value_by(t, product.tick, p)
         }
         NamedProduct::Missing => Priced::Refused(4),
     }
@@ -117,16 +117,16 @@ pub fn tick_value(code: Code, p: u32) -> Priced
 }
 
 // A bond's bracket, after checks 6 and 7. Other terms are refused with 4.
-fn bracket_by(t: Terms, finest: u32, p: u32) -> Priced
-    requires { Modest t }
-    ensures { said result ≡ of_bond t (λ c n. at_price finest p (given (bracket scale c n (bond_divisor p)))) }
+fn bracket_by(t: Terms, tick: u32, p: u32) -> Priced
+    requires { Modest t × (0 < tick) }
+    ensures { said result ≡ of_bond t (λ c n. at_price tick p (given (bracket scale c n (bond_divisor p)))) }
 {
     match t {
         Terms::Bond {
             face: _,
             coupon,
             halves,
-        } => match check_price(finest, p) {
+        } => match check_price(tick, p) {
             PriceChecked::Passed => Priced::Given(bracket_at(coupon, halves, p as u64)),
             PriceChecked::Failed(k) => Priced::Refused(k),
         },
@@ -142,7 +142,7 @@ pub fn bracket(code: Code, p: u32) -> Priced
     match lookup(code) {
         NamedProduct::Named(product) => {
             let t = product.terms;
-            bracket_by(t, product.finest, p)
+            bracket_by(t, product.tick, p)
         }
         NamedProduct::Missing => Priced::Refused(4),
     }

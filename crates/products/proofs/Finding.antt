@@ -11,17 +11,11 @@ use lib.Dec.{eqb}
 use lib.ListN.{length, get_or, drop}
 use lib.Seq.{drop-cons}
 use Rattle.numbers.proofs.Truth.{Tells, and_left, and_right, not_both, tells_as}
-use Rattle.products.specs.Products.{products, same_code_lem, find_in, find, Unlisted}
+use Rattle.products.specs.Products.{products, no_product, same_code_lem, find_in, find, Unlisted}
 use Rattle.products.specs.declared.table.Code.{Code}
-use Rattle.products.specs.declared.table.Currency.TheVariants.{Aud}
-use Rattle.products.specs.declared.table.Terms.TheVariants.{Bill}
 use Rattle.products.specs.declared.table.Product.{Product}
 use Rattle.products.specs.declared.table.NamedProduct.{NamedProduct}
 use Rattle.products.specs.declared.table.NamedProduct.TheVariants.{Named, Missing}
-
--- what stands past the table's end
-unfoldable pub no_product : Product
-no_product = record { code = (0, 0); terms = Bill 0 0; currency = Aud; tick = 0; finest = 0; months = 0 }
 
 -- a search from line i on finds that line where it has the code, and else what a search from the next line on finds
 module _ (lines : List Product) (i : ℕ) (a : Code) {product : Product} {b : Bool} {f : NamedProduct}

@@ -2,12 +2,10 @@
 use mathlib.Core.Path.{◌≡◌, refl, sym}
 use mathlib.Core.Bool.{true}
 use mathlib.Core.List.{[], ◌∷◌, map, Memᴰ}
-use mathlib.Core.Logic.{◌↔◌, ◌⊎◌, ⊎_elim}
-use Prim.Native.Nat.{ℕ, ◌%◌, ◌<◌, ◌∣◌}
-use native.Mathlib.Nat.{dvd_refl, dvd_of_mod-eq-zero}
+use mathlib.Core.Logic.{◌↔◌}
+use Prim.Native.Nat.{ℕ, ◌<◌}
 use native.Mathlib.Omega.{arith}
-use Rattle.numbers.proofs.Truth.{Tells, told, tells_or, tells_eq}
-use Rattle.products.specs.Products.{IR, BB, IB, YT, XT, XX, products, same_code_lem, find_in, find, Unlisted, currency_of, is_allowed, has_month, months_below, months_of}
+use Rattle.products.specs.Products.{IR, BB, IB, YT, XT, XX, products, same_code_lem, find_in, find, Unlisted, currency_of, has_month, months_below, months_of}
 use Rattle.products.specs.declared.table.Code.{Code}
 use Rattle.products.specs.declared.table.Currency.TheVariants.{Aud, Nzd}
 use Rattle.products.specs.declared.table.Product.{Product}
@@ -33,7 +31,7 @@ none_found code = (missing-none code, λ h. by_found (find code) refl h)
     by_found (Named product) e h = absurd (h product (found_member code e) (found-code code e))
     by_found Missing e h = refl
 
--- The codes, ticks, finest increments, currencies and months of the six lines.
+-- The codes, ticks, currencies and months of the six lines.
 pub codes_are : map (λ product. product.code) products ≡ IR ∷ BB ∷ IB ∷ YT ∷ XT ∷ XX ∷ []
 unfolding products
 codes_are = refl
@@ -41,10 +39,6 @@ codes_are = refl
 pub ticks_are : map (λ product. product.tick) products ≡ 100 ∷ 100 ∷ 50 ∷ 50 ∷ 50 ∷ 50 ∷ []
 unfolding products
 ticks_are = refl
-
-pub finest_are : map (λ product. product.finest) products ≡ 100 ∷ 100 ∷ 50 ∷ 50 ∷ 25 ∷ 25 ∷ []
-unfolding products
-finest_are = refl
 
 pub currencies_are : map (λ product. currency_of product.code) products ≡ Aud ∷ Nzd ∷ Aud ∷ Aud ∷ Aud ∷ Aud ∷ []
 unfolding products same_code_lem find_in find currency_of
@@ -60,38 +54,11 @@ months_are = refl
 pub month_exactly : (product : Product) (m : ℕ) → (has_month product m ≡ true) ↔ Memᴰ m (months_of product)
 month_exactly = months.month-exactly
 
--- An increment is allowed exactly where it is the product's tick or its finest.
-pub tells_allowed : (product : Product) (i : ℕ) → Tells (is_allowed product i) ((i ≡ product.tick) ⊎ (i ≡ product.finest))
-unfolding is_allowed
-tells_allowed product i = tells_or _ _ (tells_eq i product.tick) (tells_eq i product.finest)
-
-pub allowed_exactly : (product : Product) (i : ℕ) → (is_allowed product i ≡ true) ↔ ((i ≡ product.tick) ⊎ (i ≡ product.finest))
-allowed_exactly product i = ((tells_allowed product i).yes, told (is_allowed product i) (tells_allowed product i))
-
--- A product's finest increment is positive and divides its tick, which is positive too.
-abbrev Steps : Product → Type 0
-Steps product = (0 < product.finest) × (product.tick % product.finest ≡ 0) × (0 < product.tick)
-
-all_steps : Every Steps products
+-- A product's tick is positive.
+all_positive : Every (λ product. 0 < product.tick) products
 unfolding products
-all_steps = search arith
+all_positive = search arith
 
-module _ (code : Code) {product : Product} (f : find code ≡ Named product) where
-  steps : Steps product
-  unfolding find
-  steps = of_found Steps products code all_steps f
-
-  pub finest_positive : 0 < product.finest
-  finest_positive = steps.0
-
-  pub finest_divides : product.finest ∣ product.tick
-  finest_divides = dvd_of_mod-eq-zero product.finest steps.1
-
-  pub tick_positive : 0 < product.tick
-  tick_positive = steps.2
-
-  -- So each increment that it allows is a multiple of the finest.
-  pub allowed_multiple : {i : ℕ} → is_allowed product i ≡ true → product.finest ∣ i
-  allowed_multiple {i} h =
-      ⊎_elim (λ (e : i ≡ product.tick). rw e finest_divides) (λ (e : i ≡ product.finest). rw e (dvd_refl product.finest))
-      ((allowed_exactly product i).0 h)
+pub tick_positive : (code : Code) {product : Product} → find code ≡ Named product → 0 < product.tick
+unfolding find
+tick_positive code f = of_found (λ product. 0 < product.tick) products code all_positive f

@@ -1,5 +1,5 @@
 -- The product table, and the product that a code names.
-use Rattle.std.specs.Prelude.{ℕ, zero, suc, ◌+◌, ◌/◌, ◌%◌, ◌^◌, ◌≡◌, Bool, true, false, cond, ◌&&◌, ◌||◌, eqb, ltb}
+use Rattle.std.specs.Prelude.{ℕ, zero, suc, ◌+◌, ◌/◌, ◌%◌, ◌^◌, ◌≡◌, Bool, true, false, cond, ◌&&◌, eqb, ltb}
 use mathlib.Core.List.{List, [], ◌∷◌, ◌++◌, Memᴰ}
 use Rattle.products.specs.declared.table.Code.{Code}
 use Rattle.products.specs.declared.table.Currency.{Currency}
@@ -45,16 +45,20 @@ abbrev pub XX : Code
 XX = (88, 88)
 
 -- the six lines: a bill has its face and its days; a bond its face, half coupon c and half years n;
--- a cash rate contract its cents for each 0.01. Beside the tick stands the finest increment that a day may have
+-- a cash rate contract its cents for each 0.01
 unfoldable pub products : List Product
 products =
-    record { code = IR; terms = Bill 1_000_000 90; currency = Aud; tick = 100; finest = 100; months = quarterly }
-    ∷ record { code = BB; terms = Bill 1_000_000 90; currency = Nzd; tick = 100; finest = 100; months = quarterly }
-    ∷ record { code = IB; terms = CashRate 2_466; currency = Aud; tick = 50; finest = 50; months = monthly }
-    ∷ record { code = YT; terms = Bond 100_000 3 6; currency = Aud; tick = 50; finest = 50; months = quarterly }
-    ∷ record { code = XT; terms = Bond 100_000 3 20; currency = Aud; tick = 50; finest = 25; months = quarterly }
-    ∷ record { code = XX; terms = Bond 50_000 2 40; currency = Aud; tick = 50; finest = 25; months = quarterly }
+    record { code = IR; terms = Bill 1_000_000 90; currency = Aud; tick = 100; months = quarterly }
+    ∷ record { code = BB; terms = Bill 1_000_000 90; currency = Nzd; tick = 100; months = quarterly }
+    ∷ record { code = IB; terms = CashRate 2_466; currency = Aud; tick = 50; months = monthly }
+    ∷ record { code = YT; terms = Bond 100_000 3 6; currency = Aud; tick = 50; months = quarterly }
+    ∷ record { code = XT; terms = Bond 100_000 3 20; currency = Aud; tick = 50; months = quarterly }
+    ∷ record { code = XX; terms = Bond 50_000 2 40; currency = Aud; tick = 50; months = quarterly }
     ∷ []
+
+-- what stands past the table's end
+unfoldable pub no_product : Product
+no_product = record { code = (0, 0); terms = Bill 0 0; currency = Aud; tick = 0; months = 0 }
 
 -- two codes have the same letters
 unfoldable pub same_code_lem : Code → Code → Bool
@@ -92,10 +96,6 @@ bond_in Missing = false
 
 unfoldable pub is_bond : Code → Bool
 is_bond a = bond_in (find a)
-
--- the increments that a day of the product may have: its tick and its finest
-unfoldable pub is_allowed : Product → ℕ → Bool
-is_allowed product i = eqb i product.tick || eqb i product.finest
 
 -- a month is one of the product's
 unfoldable pub has_month : Product → ℕ → Bool

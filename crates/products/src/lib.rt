@@ -1,7 +1,7 @@
-// The product table: codes, terms, currencies, increments and months.
+// The product table: codes, terms, currencies, ticks and months.
 mod table;
 
 pub use table::{
-    Code, Currency, NamedProduct, PRICE_LIMIT, Product, Terms, currency_of, has_month, is_allowed,
-    is_bond, lookup, off_increment, same_code,
+    Code, Currency, NamedProduct, PRICE_LIMIT, PRODUCTS, Product, Terms, currency_of, has_month,
+    is_bond, lookup, off_tick, same_code,
 };

@@ -1,6 +1,6 @@
-// The product table, the product that a code names, and what a product allows.
-ghost use Rattle.std.specs.Prelude.{◌≡◌, not, eqb, ◌%◌};
-ghost use Rattle.products.specs.Products.{same_code_lem, find, currency_of, bond_terms, is_bond, has_month, is_allowed};
+// The product table, and the product that a code names.
+ghost use Rattle.std.specs.Prelude.{◌≡◌, not, eqb, ◌%◌, ◌<◌, get_or};
+ghost use Rattle.products.specs.Products.{products, no_product, same_code_lem, find, currency_of, bond_terms, is_bond, has_month};
 
 use numbers::joined;
 
@@ -32,9 +32,8 @@ pub struct Product {
     pub code: Code,
     pub terms: Terms,
     pub currency: Currency,
-    // By what a tick value moves, and the finest increment that a day may have, both in units of 0.0001.
+    // In units of 0.0001.
     pub tick: u32,
-    pub finest: u32,
     // The bit m is set for each month m.
     pub months: u16,
 }
@@ -43,7 +42,7 @@ const QUARTERLY: u16 = 0b1_0010_0100_1000;
 
 const MONTHLY: u16 = 0b1_1111_1111_1110;
 
-const PRODUCTS: [Product; 6] = [
+pub const PRODUCTS: [Product; 6] = [
     Product {
         code: Code(b'I', b'R'),
         terms: Terms::Bill {
@@ -52,7 +51,6 @@ const PRODUCTS: [Product; 6] = [
         },
         currency: Currency::Aud,
         tick: 100,
-        finest: 100,
         months: QUARTERLY,
     },
     Product {
@@ -63,7 +61,6 @@ const PRODUCTS: [Product; 6] = [
         },
         currency: Currency::Nzd,
         tick: 100,
-        finest: 100,
         months: QUARTERLY,
     },
     Product {
@@ -71,7 +68,6 @@ const PRODUCTS: [Product; 6] = [
         terms: Terms::CashRate { cents: 2_466 },
         currency: Currency::Aud,
         tick: 50,
-        finest: 50,
         months: MONTHLY,
     },
     Product {
@@ -83,7 +79,6 @@ const PRODUCTS: [Product; 6] = [
         },
         currency: Currency::Aud,
         tick: 50,
-        finest: 50,
         months: QUARTERLY,
     },
     Product {
@@ -95,7 +90,6 @@ const PRODUCTS: [Product; 6] = [
         },
         currency: Currency::Aud,
         tick: 50,
-        finest: 25,
         months: QUARTERLY,
     },
     Product {
@@ -107,7 +101,6 @@ const PRODUCTS: [Product; 6] = [
         },
         currency: Currency::Aud,
         tick: 50,
-        finest: 25,
         months: QUARTERLY,
     },
 ];
@@ -118,6 +111,14 @@ pub enum NamedProduct {
     Missing,
 }
 
+// The table's line i.
+fn line(i: usize) -> Product
+    requires { i < 6 }
+    ensures { result ≡ get_or products i no_product }
+{
+    PRODUCTS[i]
+}
+
 // Whether two codes have the same letters. They are compared as one number, so that the compiler searches the table by numbers.
 pub fn same_code(a: Code, b: Code) -> bool
     ensures { result ≡ same_code_lem a b }
@@ -125,14 +126,13 @@ pub fn same_code(a: Code, b: Code) -> bool
     joined(a.0, a.1, 0, 0) == joined(b.0, b.1, 0, 0)
 }
 
-// The product that a code names. The table stands before the loop, so that the compiler makes it once and searches it by comparisons.
+// The product that a code names.
 pub fn lookup(code: Code) -> NamedProduct
     ensures { result ≡ find code }
 {
-    let lines = PRODUCTS;
     let mut i = 0;
     while i < 6 {
-        let product = lines[i];
+        let product = line(i);
         if same_code(code, product.code) {
             return NamedProduct::Named(product);
         }
@@ -182,21 +182,21 @@ pub fn is_bond(code: Code) -> bool
     }
 }
 
-// Whether an increment is one that a day of the product may have.
-pub fn is_allowed(product: Product, increment: u32) -> bool
-    ensures { result ≡ is_allowed product increment }
+// Whether a price is not a multiple of a tick. The table's ticks, 50 and 100, are constants here: the compiler divides by a constant
+// without a division, which would take several times as long.
+pub fn off_tick(p: u32, tick: u32) -> bool
+    ensures { result ≡ not (eqb (p % tick) 0) }
 {
-    (increment == product.tick) | (increment == product.finest)
-}
-
-// Whether a price is no multiple of an increment; of 0 only 0 is one.
-pub fn off_increment(p: u32, increment: u32) -> bool
-    ensures { result ≡ not (eqb (p % increment) 0) }
-{
-    if increment == 0 {
+    if tick == 50 {
+        return p % 50 != 0;
+    }
+    if tick == 100 {
+        return p % 100 != 0;
+    }
+    if tick == 0 {
         return p != 0;
     }
-    p % increment != 0
+    p % tick != 0
 }
 
 // Whether a month is one of the product's.

@@ -1,4 +1,4 @@
--- Files for checks 2 to 13, 16 and 18, and files just inside their bounds, answered by the definitions; from check 4 on the second record of a section
+-- Files for checks 2 to 13 and 16, and files just inside their bounds, answered by the definitions; from check 4 on the second record of a section
 -- is the one that is looked at. Then what each check finds by itself.
 use mathlib.Core.Path.{◌≡◌, refl}
 use mathlib.Core.List.{List, [], ◌∷◌, ◌++◌, map}
@@ -6,19 +6,17 @@ use Prim.Native.Nat.{ℕ}
 use lib.IntN.{pos, negsuc}
 use lib.ListN.{take}
 use Rattle.numbers.specs.Rounding.{nearest}
-use Rattle.numbers.specs.Sums.{sum_to}
-use Rattle.numbers.specs.Bytes.{u16_at, u32_at, signed, records_of, u32_bytes}
+use Rattle.numbers.specs.Bytes.{u32_at, signed, records_of, u32_bytes}
 use Rattle.numbers.specs.Folds.{first, some}
-use Rattle.products.specs.Products.{price_limit, IR, BB, IB, YT, XT, XX, products, same_code_lem, find_in, find, currency_of, is_allowed, has_month}
+use Rattle.products.specs.Products.{price_limit, IR, BB, IB, products, same_code_lem, find_in, find, currency_of, has_month}
 use Rattle.pricing.specs.Prices.{par, yield_at}
-use Rattle.pricing.specs.Ladder.{factor, annuity, bracket}
-use Rattle.pricing.specs.Value.{scale, bill_dividend, bill_divisor, bond_divisor, value_by}
+use Rattle.pricing.specs.Value.{bill_dividend, bill_divisor, value_by}
 use Rattle.pricing.specs.Calls.{value_of}
 use Rattle.dayfile.specs.Limits.{file_limits}
 use Rattle.dayfile.specs.Records.{mark_at, correction_at, position_at}
 use Rattle.dayfile.specs.Layout.{counts_of}
 use Rattle.dayfile.specs.Making.{counts_in, entry_bytes, header_of, made_of}
-use Rattle.checks.specs.Table.{listed, code_has_month, code_allows, finest_of}
+use Rattle.checks.specs.Table.{listed, code_has_month, tick_of}
 use Rattle.numbers.specs.Checks.{decision_of, finding_by}
 use Rattle.numbers.specs.declared.Found.{Found}
 use Rattle.numbers.specs.declared.Found.TheVariants.{At, Nothing}
@@ -29,22 +27,15 @@ use Rattle.settlement.specs.Prices.{highest_of, final_of, change_of}
 use Rattle.settlement.specs.Settling.{amount_of, total_of, Answer, settled, refused, plan_of, answer_of}
 use Rattle.products.specs.declared.table.Code.{Code}
 
--- the bytes of a number, the lowest first, and a number of two bytes
-pub bytes_are : (u32_bytes 950100 ≡ 84 ∷ 127 ∷ 14 ∷ 0 ∷ []) × (u32_bytes 4294967292 ≡ 252 ∷ 255 ∷ 255 ∷ 255 ∷ []) × (u16_at (9 ∷ 44 ∷ 1 ∷ []) 1 ≡ 300)
-unfolding u32_bytes u16_at
-bytes_are = (refl, refl, refl)
+-- the bytes of a number, the lowest first
+pub bytes_are : (u32_bytes 950100 ≡ 84 ∷ 127 ∷ 14 ∷ 0 ∷ []) × (u32_bytes 4294967292 ≡ 252 ∷ 255 ∷ 255 ∷ 255 ∷ [])
+unfolding u32_bytes
+bytes_are = (refl, refl)
 
--- a mark with its last four bytes as given; one of an increment below 256; and one of 100
-abbrev mark_with : List ℕ → Code → ℕ → ℕ → ℕ → ℕ → List ℕ
-mark_with last a month year previous today = (a.0 ∷ a.1 ∷ month ∷ year ∷ []) ++ u32_bytes previous ++ u32_bytes today ++ last
-
-abbrev mark_by : ℕ → Code → ℕ → ℕ → ℕ → ℕ → List ℕ
-mark_by increment = mark_with (increment ∷ 0 ∷ 0 ∷ 0 ∷ [])
-
+-- a mark; and a correction, number, mark and price, or a position, account, mark and lots
 abbrev mark_of : Code → ℕ → ℕ → ℕ → ℕ → List ℕ
-mark_of = mark_by 100
+mark_of a month year previous today = (a.0 ∷ a.1 ∷ month ∷ year ∷ []) ++ u32_bytes previous ++ u32_bytes today
 
--- a correction, number, mark and price, or a position, account, mark and lots
 abbrev three : ℕ → ℕ → ℕ → List ℕ
 three a b c = u32_bytes a ++ u32_bytes b ++ u32_bytes c
 
@@ -90,37 +81,20 @@ files =
     ∷ (header 0 24 0 24 0 25 answers refused 3 0)
     -- and a byte too many
     ∷ (file_of m c p ++ (0 ∷ []) answers refused 3 0)
-    -- marks: the code, the month, the year
+    -- marks: the code, the month, the year, each price above the limit, each price off its tick, one contract twice
     ∷ (file_of (mark_of (66, 67) 6 19 940000 940100) c p answers refused 4 1)
     ∷ (file_of (mark_of BB 7 19 940000 940100) c p answers refused 5 1)
     ∷ (file_of (mark_of BB 6 100 940000 940100) c p answers refused 5 1)
-    -- the increment is another product's finest, or another's tick, or 0, or 100 and 256 more, or 256 times 100; the last byte but one is not zero, or the last
-    ∷ (file_of (mark_by 25 YT 6 19 940000 940100) c p answers refused 18 1)
-    ∷ (file_of (mark_by 50 BB 6 19 940000 940100) c p answers refused 18 1)
-    ∷ (file_of (mark_by 100 XX 6 19 940000 940100) c p answers refused 18 1)
-    ∷ (file_of (mark_by 0 BB 6 19 940000 940100) c p answers refused 18 1)
-    ∷ (file_of (mark_with (100 ∷ 1 ∷ 0 ∷ 0 ∷ []) BB 6 19 940000 940100) c p answers refused 18 1)
-    ∷ (file_of (mark_with (0 ∷ 100 ∷ 0 ∷ 0 ∷ []) BB 6 19 940000 940100) c p answers refused 18 1)
-    ∷ (file_of (mark_with (100 ∷ 0 ∷ 1 ∷ 0 ∷ []) BB 6 19 940000 940100) c p answers refused 18 1)
-    ∷ (file_of (mark_with (100 ∷ 0 ∷ 0 ∷ 1 ∷ []) BB 6 19 940000 940100) c p answers refused 18 1)
-    -- 5 of a later mark stands before it, and it before 6 of an earlier one
-    ∷ (made_of (mark_by 50 IR 3 18 950000 950200 ++ mark_of BB 7 19 940000 940100) (three 7 0 950100) (three 11 0 10) answers refused 5 1)
-    ∷ (made_of (mark_of IR 3 18 1000100 950200 ++ mark_by 50 BB 6 19 940000 940100) (three 7 0 950100) (three 11 0 10) answers refused 18 1)
-    -- each price above the limit; the previous price off the finest increment, today's off the day's; one contract twice
     ∷ (file_of (mark_of BB 6 19 1000100 940100) c p answers refused 6 1)
     ∷ (file_of (mark_of BB 6 19 940000 1000100) c p answers refused 6 1)
     ∷ (file_of (mark_of BB 6 19 940050 940100) c p answers refused 7 1)
     ∷ (file_of (mark_of BB 6 19 940000 940150) c p answers refused 7 1)
-    ∷ (file_of (mark_by 50 XT 6 19 950010 950050) c p answers refused 7 1)
-    ∷ (file_of (mark_by 50 XT 6 19 950000 950025) c p answers refused 7 1)
-    ∷ (file_of (mark_by 25 XT 6 19 950000 950010) c p answers refused 7 1)
     ∷ (file_of (mark_of IR 3 18 940000 940100) c p answers refused 8 1)
-    -- corrections: no mark, a price above the limit or off its mark's increment, one number with another mark or price
+    -- corrections: no mark, a price above the limit or off its tick, one number with another mark or price
     ∷ (file_of m (three 5 2 951000) p answers refused 9 1)
     ∷ (file_of m (three 5 0 1000100) p answers refused 10 1)
     ∷ (file_of m (three 5 0 951050) p answers refused 10 1)
-    ∷ (file_of (mark_by 50 IB 3 18 940000 940050) (three 5 0 950050) p answers refused 10 1)
-    ∷ (file_of (mark_by 50 XT 6 19 950025 950050) (three 5 1 950025) p answers refused 10 1)
+    ∷ (file_of (mark_of IB 3 18 940000 940050) (three 5 0 950050) p answers refused 10 1)
     ∷ (file_of m (three 7 1 950100) p answers refused 11 1)
     ∷ (file_of m (three 7 0 951000) p answers refused 11 1)
     -- positions: no mark, no lots, too many either way; an account twice in one mark, with the same lots, with others, and without any
@@ -131,18 +105,14 @@ files =
     ∷ (file_of m c (three 11 0 10) answers refused 16 1)
     ∷ (file_of m c (three 11 0 4294967292) answers refused 16 1)
     ∷ (file_of m c (three 11 0 0) answers refused 13 1)
-    -- what passes: the last year, another year or month of a code, another code, a correction on its own mark's increment, a previous price on
-    -- the finest where the day has the tick, all prices on the finest where the day has it, the most lots either way,
+    -- what passes: the last year, another year or month of a code, another code, a correction on its own mark's tick, the most lots either way,
     -- a price at the limit; an account in two marks, two accounts in one mark
     ∷ (file_of m c p answers settled 2 (pos 24060) (negsuc 9575) 0)
     ∷ (file_of (mark_of BB 6 99 940000 940100) c p answers settled 2 (pos 24060) (negsuc 9575) 0)
     ∷ (file_of (mark_of IR 3 19 940000 940100) c p answers settled 2 (pos 14484) (pos 0) 0)
     ∷ (file_of (mark_of IR 6 18 940000 940100) c p answers settled 2 (pos 14484) (pos 0) 0)
-    ∷ (file_of (mark_by 50 IB 3 18 940000 940100) c p answers settled 2 (pos 14196) (pos 0) 0)
-    ∷ (file_of (mark_by 50 IB 3 18 940000 940050) (three 5 1 940150) p answers settled 2 (pos 9264) (pos 0) 0)
-    ∷ (file_of (mark_by 50 XT 6 19 950025 950050) c p answers settled 2 (pos 15892) (pos 0) 0)
-    ∷ (file_of (mark_by 25 XX 6 19 955025 955075) c p answers settled 2 (pos 11520) (pos 0) 0)
-    ∷ (file_of (mark_by 25 XX 6 19 955000 955050) (three 5 1 955025) p answers settled 2 (pos 17788) (pos 0) 0)
+    ∷ (file_of (mark_of IB 3 18 940000 940100) c p answers settled 2 (pos 14196) (pos 0) 0)
+    ∷ (file_of (mark_of IB 3 18 940000 940050) (three 5 1 940150) p answers settled 2 (pos 9264) (pos 0) 0)
     ∷ (file_of m c (three 12 1 1000000) answers settled 2 (pos 24060) (pos 2394000000) 0)
     ∷ (file_of m c (three 12 1 4293967296) answers settled 2 (pos 24060) (negsuc 2393999999) 0)
     ∷ (file_of (mark_of BB 6 19 1000000 1000000) c p answers settled 2 (pos 24060) (pos 0) 0)
@@ -151,16 +121,15 @@ files =
     ∷ []
 
 pub files_answered : map (λ x. answer_of file_limits x.file 2) files ≡ map (λ x. x.answer) files
-unfolding files nearest sum_to par price_limit yield_at products same_code_lem find_in find is_allowed has_month factor annuity bracket scale
-    bill_dividend bill_divisor bond_divisor value_by value_of
-    u32_bytes u16_at u32_at signed records_of first some mark_at correction_at position_at listed code_has_month code_allows finest_of currency_of value_or_zero
+unfolding files nearest par price_limit yield_at products same_code_lem find_in find has_month bill_dividend bill_divisor value_by value_of
+    u32_bytes u32_at signed records_of first some mark_at correction_at position_at listed code_has_month tick_of currency_of value_or_zero
     decision_of judged_of counts_of highest_of final_of change_of amount_of total_of plan_of answer_of counts_in entry_bytes header_of made_of
 files_answered = refl
 
 -- one place for two positions: 14, but after 16
 pub room-last : (answer_of file_limits (file_of m c p) 1 ≡ refused 14 0) × (answer_of file_limits (file_of m c (three 11 0 10)) 1 ≡ refused 16 1)
-unfolding price_limit products same_code_lem find_in find is_allowed has_month u32_bytes u16_at u32_at signed records_of first some mark_at correction_at position_at
-    listed code_has_month code_allows finest_of decision_of judged_of counts_of plan_of answer_of counts_in entry_bytes header_of made_of
+unfolding price_limit products same_code_lem find_in find has_month u32_bytes u32_at signed records_of first some mark_at correction_at position_at
+    listed code_has_month tick_of decision_of judged_of counts_of plan_of answer_of counts_in entry_bytes header_of made_of
 room-last = (refl, refl)
 
 -- ---- what each check finds by itself
@@ -173,13 +142,13 @@ pub record Findings : Type 0 where
 
 unfoldable pub findings : List Findings
 findings =
-    -- four faults: a byte too many, a second mark off its increment, a second correction that names no mark, a second position without lots
+    -- four faults: a byte too many, a second mark off its tick, a second correction that names no mark, a second position without lots
     record {
       file = file_of (mark_of BB 6 19 940050 940100) (three 5 2 951000) (three 12 1 0) ++ (0 ∷ []);
-      asked = 1 ∷ 2 ∷ 3 ∷ 4 ∷ 5 ∷ 18 ∷ 6 ∷ 7 ∷ 8 ∷ 9 ∷ 10 ∷ 11 ∷ 12 ∷ 13 ∷ 14 ∷ 16 ∷ [];
-      found = Nothing ∷ Nothing ∷ At 0 ∷ Nothing ∷ Nothing ∷ Nothing ∷ Nothing ∷ At 1 ∷ Nothing ∷ At 1 ∷ Nothing ∷ Nothing ∷ Nothing ∷ At 1 ∷ Nothing ∷ Nothing ∷ [];
+      asked = 1 ∷ 2 ∷ 3 ∷ 4 ∷ 5 ∷ 6 ∷ 7 ∷ 8 ∷ 9 ∷ 10 ∷ 11 ∷ 12 ∷ 13 ∷ 14 ∷ 16 ∷ [];
+      found = Nothing ∷ Nothing ∷ At 0 ∷ Nothing ∷ Nothing ∷ Nothing ∷ At 1 ∷ Nothing ∷ At 1 ∷ Nothing ∷ Nothing ∷ Nothing ∷ At 1 ∷ Nothing ∷ Nothing ∷ [];
     }
-    -- all of 3 to 13, 16 and 18, most of them at two records: the first is found
+    -- all of 3 to 13 and 16, most of them at two records: the first is found
     ∷ record {
       file =
           made_of
@@ -188,8 +157,8 @@ findings =
           (three 7 0 950100 ++ three 5 9 951001 ++ three 6 1 951001 ++ three 6 0 951050 ++ three 7 8 1000100)
           (three 11 0 10 ++ three 12 5 4 ++ three 13 0 0 ++ three 14 9 0 ++ three 12 5 9 ++ three 11 0 1)
           ++ (0 ∷ []);
-      asked = 1 ∷ 2 ∷ 3 ∷ 4 ∷ 5 ∷ 18 ∷ 6 ∷ 7 ∷ 8 ∷ 9 ∷ 10 ∷ 11 ∷ 12 ∷ 13 ∷ 14 ∷ 16 ∷ [];
-      found = Nothing ∷ Nothing ∷ At 0 ∷ At 1 ∷ At 1 ∷ At 1 ∷ At 2 ∷ At 3 ∷ At 3 ∷ At 1 ∷ At 2 ∷ At 3 ∷ At 1 ∷ At 2 ∷ Nothing ∷ At 4 ∷ [];
+      asked = 1 ∷ 2 ∷ 3 ∷ 4 ∷ 5 ∷ 6 ∷ 7 ∷ 8 ∷ 9 ∷ 10 ∷ 11 ∷ 12 ∷ 13 ∷ 14 ∷ 16 ∷ [];
+      found = Nothing ∷ Nothing ∷ At 0 ∷ At 1 ∷ At 1 ∷ At 2 ∷ At 3 ∷ At 3 ∷ At 1 ∷ At 3 ∷ At 3 ∷ At 1 ∷ At 2 ∷ Nothing ∷ At 4 ∷ [];
     }
     -- shorter than a header: its length alone is looked at
     ∷ record {
@@ -199,42 +168,31 @@ findings =
     }
     -- a count above its limit: the header alone, though there is a mark with every fault
     ∷ record {
-      file = header 257 24 0 4136 0 4136 ++ mark_with (0 ∷ 0 ∷ 1 ∷ 0 ∷ []) (66, 67) 7 100 1000001 1000001;
-      asked = 1 ∷ 2 ∷ 3 ∷ 4 ∷ 5 ∷ 18 ∷ 6 ∷ 7 ∷ [];
-      found = Nothing ∷ At 0 ∷ At 0 ∷ Nothing ∷ Nothing ∷ Nothing ∷ Nothing ∷ Nothing ∷ [];
+      file = header 257 24 0 3108 0 3108 ++ mark_of (66, 67) 7 100 1000001 1000001;
+      asked = 1 ∷ 2 ∷ 3 ∷ 4 ∷ 5 ∷ 6 ∷ 7 ∷ [];
+      found = Nothing ∷ At 0 ∷ At 0 ∷ Nothing ∷ Nothing ∷ Nothing ∷ Nothing ∷ [];
     }
-    -- a code in no table has no months, allows no increment, and has no finest one; the mark's own judges today's price and corrections
+    -- a code in no table has no months and no tick
     ∷ record {
-      file = file_of (mark_of (66, 67) 6 19 940001 940100) (three 5 1 951001) p;
-      asked = 4 ∷ 5 ∷ 18 ∷ 6 ∷ 7 ∷ 10 ∷ [];
-      found = At 1 ∷ At 1 ∷ At 1 ∷ Nothing ∷ Nothing ∷ At 1 ∷ [];
-    }
-    -- of 0 only 0 is a multiple
-    ∷ record {
-      file = file_of (mark_by 0 BB 6 19 940000 940100) (three 5 1 0) p;
-      asked = 18 ∷ 7 ∷ 10 ∷ [];
-      found = At 1 ∷ At 1 ∷ Nothing ∷ [];
-    }
-    ∷ record {
-      file = file_of (mark_by 0 BB 6 19 940000 0) (three 5 1 100) p;
-      asked = 18 ∷ 7 ∷ 10 ∷ [];
-      found = At 1 ∷ Nothing ∷ At 1 ∷ [];
+      file = file_of (mark_of (66, 67) 6 19 940001 940003) (three 5 1 951001) p;
+      asked = 4 ∷ 5 ∷ 6 ∷ 7 ∷ 10 ∷ [];
+      found = At 1 ∷ At 1 ∷ Nothing ∷ Nothing ∷ Nothing ∷ [];
     }
     -- cut in its last record: whole records are looked at
     ∷ record {
-      file = take 103 (file_of m (three 5 2 951001) (three 12 2 0));
+      file = take 95 (file_of m (three 5 2 951001) (three 12 2 0));
       asked = 3 ∷ 9 ∷ 10 ∷ 12 ∷ 13 ∷ [];
       found = At 0 ∷ At 1 ∷ Nothing ∷ Nothing ∷ Nothing ∷ [];
     }
     -- a wrong offset: the sections are cut by the counts
     ∷ record {
-      file = header 1 24 0 48 1 40 ++ mark_of IR 3 18 950000 950200 ++ three 11 0 0;
+      file = header 1 24 0 48 1 36 ++ mark_of IR 3 18 950000 950200 ++ three 11 0 0;
       asked = 3 ∷ 4 ∷ 9 ∷ 12 ∷ 13 ∷ [];
       found = At 0 ∷ Nothing ∷ Nothing ∷ Nothing ∷ At 0 ∷ [];
     }
     ∷ []
 
 pub found_each : map (λ x. map (found_of file_limits x.file) x.asked) findings ≡ map (λ x. x.found) findings
-unfolding findings price_limit products same_code_lem find_in find is_allowed has_month u32_bytes u16_at u32_at signed records_of first some
-    mark_at correction_at position_at listed code_has_month code_allows finest_of finding_by found_of counts_of counts_in entry_bytes header_of made_of
+unfolding findings price_limit products same_code_lem find_in find has_month u32_bytes u32_at signed records_of first some
+    mark_at correction_at position_at listed code_has_month tick_of finding_by found_of counts_of counts_in entry_bytes header_of made_of
 found_each = refl

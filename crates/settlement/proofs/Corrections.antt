@@ -8,7 +8,7 @@ use lib.Dec.{leb, eqb, ltb}
 use lib.ListN.{length}
 use borrow.Author.Tests.{eqb-true, eq-eqb, ltb-true, ltb-false}
 use Rattle.numbers.specs.Folds.{repeating, first}
-use Rattle.dayfile.specs.Records.{Lists, correction_at}
+use Rattle.dayfile.specs.Records.{Lists, correction_at, mark_at}
 use Rattle.numbers.specs.Checks.{decision_of, finding_of}
 use Rattle.numbers.specs.declared.deciding.Decision.TheVariants.{Unmet}
 use Rattle.checks.specs.Corrections.{bad_price, clashing, clash_pair, CorrectionCheck, CorrectionMark, CorrectionPrice, CorrectionClash, correction_checks}
@@ -85,5 +85,5 @@ module _ (ms : List Mark) (ps : List Position) (cs : List Correction) (passed : 
 
       still : (c : CorrectionCheck) → finding_of (correction_checks ms ds) c ≡ Nothing
       still CorrectionMark = each (λ c. leb (length ms) c.mark) (λ i h. correction_passes (lists_with ms ps cs) passed i CorrectionMark h)
-      still CorrectionPrice = each (bad_price ms) (λ i h. correction_passes (lists_with ms ps cs) passed i CorrectionPrice h)
+      still CorrectionPrice = each (λ c. bad_price (mark_at ms c.mark) c.price) (λ i h. correction_passes (lists_with ms ps cs) passed i CorrectionPrice h)
       still CorrectionClash = clashes

@@ -20,7 +20,6 @@ use Rattle.numbers.specs.Folds.{sum, count, some}
 use Rattle.dayfile.specs.Limits.{Limits, file_limits}
 use Rattle.dayfile.specs.Records.{mark_at, correction_at}
 use Rattle.dayfile.specs.Layout.{counts_of, lists_of_file}
-use Rattle.dayfile.specs.OldLayout.{OldLayout}
 use Rattle.products.specs.Products.{currency_of}
 use Rattle.numbers.specs.Checks.{number_of}
 use Rattle.settlement.specs.Conditions.{settlement_checks, TurnedAway, NotTurnedAway}
@@ -34,7 +33,6 @@ use Rattle.settlement.specs.Resend.SentAgain.{end, kept, copy}
 use Rattle.dayfile.specs.declared.records.Mark.{Mark}
 use Rattle.dayfile.specs.declared.records.Correction.{Correction}
 use Rattle.dayfile.proofs.Opening as opening
-use Rattle.dayfile.proofs.OldLayout.{old_refused}
 use Rattle.dayfile.proofs.Parts.{marks_sized, corrections_sized, positions_sized}
 use Rattle.pricing.proofs.Promises as promises
 use Rattle.settlement.proofs.Corrections as corrections
@@ -78,16 +76,12 @@ demand_2_accepted l f places = accepted_exactly l f places
 
 -- The checks, in their order.
 pub numbers_in_order : (l : Limits) (f : List ℕ) (places : ℕ)
-    → map (number_of (settlement_checks l f places)) (settlement_checks l f places).order ≡ 1 ∷ 2 ∷ 3 ∷ 4 ∷ 5 ∷ 18 ∷ 6 ∷ 7 ∷ 8 ∷ 9 ∷ 10 ∷ 11 ∷ 12 ∷ 13 ∷ 16 ∷ 14 ∷ []
+    → map (number_of (settlement_checks l f places)) (settlement_checks l f places).order ≡ 1 ∷ 2 ∷ 3 ∷ 4 ∷ 5 ∷ 6 ∷ 7 ∷ 8 ∷ 9 ∷ 10 ∷ 11 ∷ 12 ∷ 13 ∷ 16 ∷ 14 ∷ []
 numbers_in_order l f places = refl
 
--- A file that is longer than one with as many records as the limits allow, 24 + 16 times 256 + 12 times (512 + 4,096) bytes, is refused with 2 or 3.
-pub too_long : (f : List ℕ) (places : ℕ) → 59416 < length f → (answer_of file_limits f places ≡ refused 2 0) ⊎ (answer_of file_limits f places ≡ refused 3 0)
+-- A file that is longer than one with as many records as the limits allow, 24 + 12 times (256 + 512 + 4,096) bytes, is refused with 2 or 3.
+pub too_long : (f : List ℕ) (places : ℕ) → 58392 < length f → (answer_of file_limits f places ≡ refused 2 0) ⊎ (answer_of file_limits f places ≡ refused 3 0)
 too_long f places h = ⊎_elim (λ e. inl (refused-answer file_limits f places e)) (λ e. inr (refused-answer file_limits f places e)) (opening.too_long f h)
-
--- A file that was accepted when a mark had 12 bytes, and that has a mark, is refused with 3.
-pub old_layout_refused : (f : List ℕ) (places : ℕ) → OldLayout f → 0 < u32_at f 0 → answer_of file_limits f places ≡ refused 3 0
-old_layout_refused f places old marked = refused-answer file_limits f places (old_refused f old marked)
 
 -- N is the header's count of positions, and the lists of an accepted file have as many records as its header counts.
 pub header-counts : (l : Limits) (f : List ℕ) (a : List ℤ) {n k : ℕ} {aud nzd : ℤ} → answer_of l f (length a) ≡ settled n aud nzd k

@@ -5,15 +5,15 @@ use Prim.Native.Nat.{ℕ}
 use lib.IntN.{pos, negsuc}
 use lib.ListN.{replicate}
 use Rattle.numbers.specs.Rounding.{nearest}
-use Rattle.products.specs.Products.{price_limit, products, same_code_lem, find_in, find, currency_of, is_allowed, has_month}
+use Rattle.products.specs.Products.{price_limit, products, same_code_lem, find_in, find, currency_of, has_month}
 use Rattle.pricing.specs.Prices.{par, yield_at}
 use Rattle.pricing.specs.Value.{bill_dividend, bill_divisor, value_by}
 use Rattle.pricing.specs.Calls.{value_of}
-use Rattle.numbers.specs.Bytes.{u16_at, u32_at, signed, records_of}
+use Rattle.numbers.specs.Bytes.{u32_at, signed, records_of}
 use Rattle.numbers.specs.Folds.{first, some}
 use Rattle.dayfile.specs.Limits.{file_limits}
 use Rattle.dayfile.specs.Records.{mark_at, correction_at, position_at}
-use Rattle.checks.specs.Table.{listed, code_has_month, code_allows, finest_of}
+use Rattle.checks.specs.Table.{listed, code_has_month, tick_of}
 use Rattle.settlement.specs.ContractValue.{value_or_zero}
 use Rattle.numbers.specs.Checks.{decision_of}
 use Rattle.checks.specs.Judging.{judged_of}
@@ -26,18 +26,17 @@ use Rattle.dayfile.proofs.CaseFile.{marks, corrections, positions, case_file}
 pub case_settled : (answer_of file_limits case_file 2 ≡ settled 2 (pos 14436) (pos 0) 1)
     × (amounts_after file_limits case_file (pos 1 ∷ pos 2 ∷ pos 3 ∷ []) ≡ pos 24060 ∷ negsuc 9623 ∷ pos 3 ∷ [])
     × (answer_of file_limits case_file 1 ≡ refused 14 0)
-unfolding marks corrections positions case_file nearest par price_limit yield_at products same_code_lem find_in find is_allowed has_month bill_dividend bill_divisor value_by value_of
-    u16_at u32_at signed records_of first some mark_at correction_at position_at listed code_has_month code_allows finest_of currency_of value_or_zero
+unfolding marks corrections positions case_file nearest par price_limit yield_at products same_code_lem find_in find has_month bill_dividend bill_divisor value_by value_of
+    u32_at signed records_of first some mark_at correction_at position_at listed code_has_month tick_of currency_of value_or_zero
     decision_of judged_of counts_of highest_of final_of change_of amount_of total_of plan_of answer_of amounts_after
 case_settled = (refl, refl, refl)
 
 -- Two marks, IR as above and BB 6 19 from 940,000 to 940,100, which no correction names; between two copies of the correction one with a lower
--- number; and a position in each mark. The header numbers are 2 24 3 56 2 92.
+-- number; and a position in each mark. The header numbers are 2 24 3 48 2 84.
 unfoldable pub two_marks : List ℕ
 two_marks =
-    (2 ∷ 0 ∷ 0 ∷ 0 ∷ 24 ∷ 0 ∷ 0 ∷ 0 ∷ 3 ∷ 0 ∷ 0 ∷ 0 ∷ 56 ∷ 0 ∷ 0 ∷ 0 ∷ 2 ∷ 0 ∷ 0 ∷ 0 ∷ 92 ∷ 0 ∷ 0 ∷ 0 ∷ [])
-    ++ (73 ∷ 82 ∷ 3 ∷ 18 ∷ 240 ∷ 126 ∷ 14 ∷ 0 ∷ 184 ∷ 127 ∷ 14 ∷ 0 ∷ 100 ∷ 0 ∷ 0 ∷ 0 ∷ [])
-    ++ (66 ∷ 66 ∷ 6 ∷ 19 ∷ 224 ∷ 87 ∷ 14 ∷ 0 ∷ 68 ∷ 88 ∷ 14 ∷ 0 ∷ 100 ∷ 0 ∷ 0 ∷ 0 ∷ [])
+    (2 ∷ 0 ∷ 0 ∷ 0 ∷ 24 ∷ 0 ∷ 0 ∷ 0 ∷ 3 ∷ 0 ∷ 0 ∷ 0 ∷ 48 ∷ 0 ∷ 0 ∷ 0 ∷ 2 ∷ 0 ∷ 0 ∷ 0 ∷ 84 ∷ 0 ∷ 0 ∷ 0 ∷ [])
+    ++ (73 ∷ 82 ∷ 3 ∷ 18 ∷ 240 ∷ 126 ∷ 14 ∷ 0 ∷ 184 ∷ 127 ∷ 14 ∷ 0 ∷ 66 ∷ 66 ∷ 6 ∷ 19 ∷ 224 ∷ 87 ∷ 14 ∷ 0 ∷ 68 ∷ 88 ∷ 14 ∷ 0 ∷ [])
     ++ (7 ∷ 0 ∷ 0 ∷ 0 ∷ 0 ∷ 0 ∷ 0 ∷ 0 ∷ 84 ∷ 127 ∷ 14 ∷ 0 ∷ 5 ∷ 0 ∷ 0 ∷ 0 ∷ 0 ∷ 0 ∷ 0 ∷ 0 ∷ 216 ∷ 130 ∷ 14 ∷ 0 ∷ [])
     ++ (7 ∷ 0 ∷ 0 ∷ 0 ∷ 0 ∷ 0 ∷ 0 ∷ 0 ∷ 84 ∷ 127 ∷ 14 ∷ 0 ∷ [])
     ++ (11 ∷ 0 ∷ 0 ∷ 0 ∷ 0 ∷ 0 ∷ 0 ∷ 0 ∷ 10 ∷ 0 ∷ 0 ∷ 0 ∷ 12 ∷ 0 ∷ 0 ∷ 0 ∷ 1 ∷ 0 ∷ 0 ∷ 0 ∷ 252 ∷ 255 ∷ 255 ∷ 255 ∷ [])
@@ -45,8 +44,8 @@ two_marks =
 -- the higher number decides, today's price stands where no correction does, and each currency has its own total
 pub two_marks-settled : (answer_of file_limits two_marks 2 ≡ settled 2 (pos 24060) (negsuc 9575) 1)
     × (amounts_after file_limits two_marks (pos 1 ∷ pos 2 ∷ []) ≡ pos 24060 ∷ negsuc 9575 ∷ [])
-unfolding two_marks nearest par price_limit yield_at products same_code_lem find_in find is_allowed has_month bill_dividend bill_divisor value_by value_of
-    u16_at u32_at signed records_of first some mark_at correction_at position_at listed code_has_month code_allows finest_of currency_of value_or_zero
+unfolding two_marks nearest par price_limit yield_at products same_code_lem find_in find has_month bill_dividend bill_divisor value_by value_of
+    u32_at signed records_of first some mark_at correction_at position_at listed code_has_month tick_of currency_of value_or_zero
     decision_of judged_of counts_of highest_of final_of change_of amount_of total_of plan_of answer_of amounts_after
 two_marks-settled = (refl, refl)
 

@@ -4,14 +4,14 @@ use mathlib.Core.Bool.{true, false}
 use Prim.Native.Nat.{ℕ, ◌%◌, ◌≤◌, ◌<◌}
 use lib.IntN.{pos, ◌-ℤ◌, ◌*ℤ◌}
 use lib.ListN.{length}
-use borrow.Author.Tests.{ltb-false, lt-leb, eqb-true, not-false}
+use borrow.Author.Tests.{ltb-false, eqb-true, not-false}
 use Rattle.products.specs.Products.{price_limit}
 use Rattle.pricing.specs.Calls.{given, value_of}
 use Rattle.dayfile.specs.Records.{Lists, mark_at, correction_at, position_at}
-use Rattle.checks.specs.Table.{above_limit, listed, code_allows, finest_of}
+use Rattle.checks.specs.Table.{above_limit, listed, tick_of}
 use Rattle.numbers.specs.Checks.{decision_of}
 use Rattle.numbers.specs.declared.deciding.Decision.TheVariants.{Unmet}
-use Rattle.checks.specs.Marks.{off_finest, off_increment, MarkCode, MarkIncrement, MarkLimit, MarkMultiple}
+use Rattle.checks.specs.Marks.{off_tick, MarkCode, MarkLimit, MarkTick}
 use Rattle.checks.specs.Corrections.{CorrectionPrice}
 use Rattle.checks.specs.Judging.{record_checks}
 use Rattle.settlement.specs.Prices.{final_of, change_of, FinalPrice, corrected, uncorrected}
@@ -20,22 +20,18 @@ use Rattle.dayfile.specs.declared.records.Mark.{Mark}
 use Rattle.numbers.proofs.Searches.{or_none}
 use Rattle.checks.proofs.Passed.{mark_passes, correction_passes, mark_in_lem}
 use Rattle.settlement.proofs.FinalPrices.{final_price-is}
-use Rattle.settlement.proofs.Pricing.{multiple_of_finest, valued, value_or_zero-is}
+use Rattle.settlement.proofs.Pricing.{valued, value_or_zero-is}
 
--- a price of a mark's product: within the limit, and on the finest increment
-record Quotable (m : Mark) (p : ℕ) : Type 0 where
+-- a price that passes 6 and 7 for a mark
+record Allowed (m : Mark) (p : ℕ) : Type 0 where
   low : p ≤ price_limit
-  on_finest : p % finest_of m.code ≡ 0
+  on_tick : p % tick_of m.code ≡ 0
 
-by_finest : (m : Mark) (p : ℕ) → above_limit p ≡ false → off_finest m p ≡ false → Quotable m p
-by_finest m p a b = record { low = ltb-false price_limit p a; on_finest = eqb-true _ 0 (not-false _ b) }
+allowed : (m : Mark) (p : ℕ) → above_limit p ≡ false → off_tick m p ≡ false → Allowed m p
+allowed m p a b = record { low = ltb-false price_limit p a; on_tick = eqb-true _ 0 (not-false _ b) }
 
--- so is one that the day's increment judges, where the product allows this
-by_increment : (m : Mark) (p : ℕ) → code_allows m.code m.increment ≡ true → above_limit p ≡ false → off_increment m p ≡ false → Quotable m p
-by_increment m p h a b = record { low = ltb-false price_limit p a; on_finest = multiple_of_finest m.code m.increment p h (eqb-true _ 0 (not-false _ b)) }
-
-quotable_as : (m : Mark) {p q : ℕ} → p ≡ q → Quotable m p → Quotable m q
-quotable_as m e a = rw e at a
+allowed_as : (m : Mark) {p q : ℕ} → p ≡ q → Allowed m p → Allowed m q
+allowed_as m e a = rw e at a
 
 module _ (ls : Lists) (passed : decision_of (record_checks ls) ≡ Unmet) where
   module _ (m : ℕ) (h : m < length ls.marks) where
@@ -45,38 +41,35 @@ module _ (ls : Lists) (passed : decision_of (record_checks ls) ≡ Unmet) where
     low_both : (above_limit (mark_at ls.marks m).previous ≡ false) × (above_limit (mark_at ls.marks m).today ≡ false)
     low_both = or_none _ _ (mark_passes ls passed m MarkLimit h)
 
-    on_both : (off_finest (mark_at ls.marks m) (mark_at ls.marks m).previous ≡ false) × (off_increment (mark_at ls.marks m) (mark_at ls.marks m).today ≡ false)
-    on_both = or_none _ _ (mark_passes ls passed m MarkMultiple h)
+    on_both : (off_tick (mark_at ls.marks m) (mark_at ls.marks m).previous ≡ false) × (off_tick (mark_at ls.marks m) (mark_at ls.marks m).today ≡ false)
+    on_both = or_none _ _ (mark_passes ls passed m MarkTick h)
 
-    increment_allowed : code_allows (mark_at ls.marks m).code (mark_at ls.marks m).increment ≡ true
-    increment_allowed = not-false _ (or_none _ _ (mark_passes ls passed m MarkIncrement h)).0
+    previous_allowed : Allowed (mark_at ls.marks m) (mark_at ls.marks m).previous
+    previous_allowed = allowed _ _ low_both.0 on_both.0
 
-    previous_quotable : Quotable (mark_at ls.marks m) (mark_at ls.marks m).previous
-    previous_quotable = by_finest _ _ low_both.0 on_both.0
+    today_allowed : Allowed (mark_at ls.marks m) (mark_at ls.marks m).today
+    today_allowed = allowed _ _ low_both.1 on_both.1
 
-    today_quotable : Quotable (mark_at ls.marks m) (mark_at ls.marks m).today
-    today_quotable = by_increment _ _ increment_allowed low_both.1 on_both.1
-
-    final_quotable : Quotable (mark_at ls.marks m) (final_of ls.marks ls.corrections m)
-    final_quotable = by_price (final_price-is ls.marks ls.corrections m)
+    final_allowed : Allowed (mark_at ls.marks m) (final_of ls.marks ls.corrections m)
+    final_allowed = by_price (final_price-is ls.marks ls.corrections m)
       where
-        by_price : {p : ℕ} → FinalPrice ls.marks ls.corrections m p → Quotable (mark_at ls.marks m) p
-        by_price (uncorrected none e) = quotable_as (mark_at ls.marks m) e today_quotable
+        by_price : {p : ℕ} → FinalPrice ls.marks ls.corrections m p → Allowed (mark_at ls.marks m) p
+        by_price (uncorrected none e) = allowed_as (mark_at ls.marks m) e today_allowed
         by_price (corrected k hk named e max) =
             let c = correction_at ls.corrections k in
-            let n = mark_at ls.marks m in
-            let q = or_none (above_limit c.price) _ (correction_passes ls passed k CorrectionPrice hk) in
-            quotable_as n e (by_increment n c.price increment_allowed q.0 (rw (named, lt-leb (length ls.marks) m h) at q.1))
+            let n = mark_at ls.marks c.mark in
+            let q = or_none (above_limit c.price) (off_tick n c.price) (correction_passes ls passed k CorrectionPrice hk) in
+            rw named at (allowed_as n e (allowed n c.price q.0 q.1))
 
-    -- the value at such a price
-    has_value : (p : ℕ) → Quotable (mark_at ls.marks m) p → (n : ℕ) × (value_of (mark_at ls.marks m).code p ≡ given n)
-    has_value p a = valued (mark_at ls.marks m).code p code-listed a.low a.on-finest
+    -- the value at a price that is allowed
+    has_value : (p : ℕ) → Allowed (mark_at ls.marks m) p → (n : ℕ) × (value_of (mark_at ls.marks m).code p ≡ given n)
+    has_value p a = valued (mark_at ls.marks m).code p code-listed a.low a.on-tick
 
     previous_value : (n : ℕ) × (value_of (mark_at ls.marks m).code (mark_at ls.marks m).previous ≡ given n)
-    previous_value = has_value _ previous_quotable
+    previous_value = has_value _ previous_allowed
 
     final_value : (n : ℕ) × (value_of (mark_at ls.marks m).code (final_of ls.marks ls.corrections m) ≡ given n)
-    final_value = has_value _ final_quotable
+    final_value = has_value _ final_allowed
 
     change_is : {v w : ℕ} → value_of (mark_at ls.marks m).code (mark_at ls.marks m).previous ≡ given v
         → value_of (mark_at ls.marks m).code (final_of ls.marks ls.corrections m) ≡ given w → change_in ls m ≡ pos w -ℤ pos v

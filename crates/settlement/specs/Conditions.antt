@@ -1,4 +1,4 @@
--- Why a settlement is turned away: the checks over the file, 1 to 13, 16 and 18, and then 14.
+-- Why a settlement is turned away: the checks over the file, 1 to 13 and 16, and then 14.
 use Rattle.std.specs.Prelude.{List, ℕ, ◌<◌, ltb, length}
 use Rattle.numbers.specs.Checks.{Check, Checks, only, ◌before◌, Refuses, Passes}
 use Rattle.dayfile.specs.Limits.{Limits}

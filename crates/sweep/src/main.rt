@@ -7,27 +7,26 @@ ghost use Rattle.std.specs.Prelude.{◌<◌};
 
 use products::Code;
 
-// A product that is listed with the given finest increment: at every multiple of it, off it, and above the limit.
-fn product(code: Code, finest: u32)
-    requires { 0 < finest }
+// A product that is listed with the given tick: at every multiple of the tick, off the tick, and above the limit.
+fn product(code: Code, tick: u32)
+    requires { 0 < tick }
 {
     lines::at_prices(code, 0, 1_000_000, 50_000);
     lines::digest(
         code,
         b" digest ",
-        digest::at_prices(code, 0, 1_000_000, finest),
+        digest::at_prices(code, 0, 1_000_000, tick),
     );
-    off_increment(code);
+    off_tick(code);
     above_limit(code);
 }
 
-// 37 has no factor in common with an increment, so its multiples leave every remainder.
-fn off_increment(code: Code) {
-    lines::at_prices(code, 950_000, 950_030, 5);
-    lines::at_prices(code, 950_050, 950_100, 25);
+// 37 has no factor in common with a tick, so its multiples leave every remainder.
+fn off_tick(code: Code) {
+    lines::at_prices(code, 950_000, 950_100, 25);
     lines::digest(
         code,
-        b" off increment digest ",
+        b" off tick digest ",
         digest::at_prices(code, 0, 1_000_000, 37),
     );
 }
@@ -50,7 +49,7 @@ fn above_limit(code: Code) {
     );
 }
 
-// A code that no product has: at an ordinary price, at 0, above the limit and off most increments.
+// A code that no product has: at an ordinary price, at 0, above the limit and off the tick.
 fn unlisted(code: Code) {
     lines::of_bytes(code, 950_000);
     lines::of_bytes(code, 0);
@@ -68,8 +67,8 @@ fn products() {
     product(Code(b'B', b'B'), 100);
     product(Code(b'I', b'B'), 50);
     product(Code(b'Y', b'T'), 50);
-    product(Code(b'X', b'T'), 25);
-    product(Code(b'X', b'X'), 25);
+    product(Code(b'X', b'T'), 50);
+    product(Code(b'X', b'X'), 50);
 }
 
 // Lower case, letters swapped or taken from two codes, no letters, and letters with the highest bit set.

@@ -7,8 +7,7 @@ use std::fmt;
 ///
 /// ```
 /// let refusal = citronreef::value(*b"IR", 950_050).unwrap_err();
-/// assert_eq!(refusal.number, 7);
-/// assert!(refusal.to_string().starts_with("refused 7 at 0: a mark's previous price is not a multiple of its product's finest"));
+/// assert_eq!(refusal.to_string(), "refused 7 at 0: a mark's price is not a multiple of its product's tick");
 /// ```
 #[derive(Clone, Copy, Debug, PartialEq, Eq)]
 pub struct Refusal {
@@ -20,17 +19,17 @@ pub struct Refusal {
 }
 
 /// What each check refuses, by its number from 1.
-const WORDS: [&str; 18] = [
+const WORDS: [&str; 17] = [
     "the file is shorter than 24 bytes",
     "a count is above its limit",
     "an offset or the file's length differs from the layout",
     "a mark's code is not in the product table",
     "a mark's month is not one of its product's months, or its year is above 99",
     "a mark's price is above 100.0000",
-    "a mark's previous price is not a multiple of its product's finest increment, or today's of the day's increment",
+    "a mark's price is not a multiple of its product's tick",
     "two marks agree in code, month and year",
     "a correction names no mark",
-    "a correction's price is above 100.0000, or is not a multiple of its mark's increment",
+    "a correction's price is above 100.0000, or is not a multiple of its mark's tick",
     "two corrections agree in number but differ in mark or price",
     "a position names no mark",
     "a position's lots are 0, below -1,000,000 or above 1,000,000",
@@ -38,7 +37,6 @@ const WORDS: [&str; 18] = [
     "a tick value is asked for where the price one tick higher is above 100.0000",
     "two positions agree in account and mark",
     "the lent buffer is shorter than the file",
-    "a mark's increment is not allowed for its product, or its last two bytes are not zero",
 ];
 
 impl Refusal {
@@ -69,7 +67,7 @@ impl Refusal {
 ///
 /// ```
 /// assert_eq!(citronreef::words(12), "a position names no mark");
-/// assert_eq!(citronreef::words(19), "");
+/// assert_eq!(citronreef::words(18), "");
 /// ```
 pub fn words(number: u32) -> &'static str {
     (number as usize).checked_sub(1).and_then(|place| WORDS.get(place)).copied().unwrap_or("")

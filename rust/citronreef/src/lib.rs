@@ -12,30 +12,27 @@ pub mod records;
 mod sys;
 
 pub use answers::{words, MarkPrices, Refusal, Settled};
-use records::{CORRECTION_SIZE, HEADER_SIZE, MARK_SIZE, MAX_CORRECTIONS, MAX_MARKS, MAX_POSITIONS, POSITION_SIZE};
+use records::{HEADER_SIZE, MAX_CORRECTIONS, MAX_MARKS, MAX_POSITIONS, RECORD_SIZE};
 
 /// The version of this package, which is also that of the library and its header.
 pub const VERSION: &str = env!("CARGO_PKG_VERSION");
 
-/// The value of one contract in cents. The price is in units of 0.0001, and a multiple of the product's finest increment: 25 for XT and
-/// XX, else the tick.
+/// The value of one contract in cents. The price is in units of 0.0001.
 ///
 /// ```
 /// assert_eq!(citronreef::value(*b"IR", 950_000), Ok(98_782_138));
 /// assert_eq!(citronreef::value(*b"IR", 950_050).unwrap_err().number, 7);
-/// assert!(citronreef::value(*b"XX", 950_025).is_ok());
 /// ```
 pub fn value(code: [u8; 2], price: u32) -> Result<u64, Refusal> {
     // SAFETY: the function takes numbers only, and answers for all of them.
     unsafe { sys::citronreef_value(code[0], code[1], price) }.answer()
 }
 
-/// The value at the price one tick higher, minus the value. The tick is 50 for XT and XX too.
+/// The value at the price one tick higher, minus the value.
 ///
 /// ```
 /// assert_eq!(citronreef::tick_value(*b"IR", 950_000), Ok(2_406));
 /// assert_eq!(citronreef::tick_value(*b"IR", 1_000_000).unwrap_err().number, 15);
-/// assert_eq!(citronreef::tick_value(*b"XX", 999_975).unwrap_err().number, 15);
 /// ```
 pub fn tick_value(code: [u8; 2], price: u32) -> Result<u64, Refusal> {
     // SAFETY: as in `value`.
@@ -62,7 +59,7 @@ pub fn bracket(code: [u8; 2], price: u32) -> Result<u64, Refusal> {
 /// use citronreef::records::{Day, Mark, Position};
 ///
 /// let day = Day {
-///     marks: vec![Mark { code: *b"IR", month: 3, year: 27, previous: 950_000, today: 950_100, increment: 100, padding: [0; 2] }],
+///     marks: vec![Mark { code: *b"IR", month: 3, year: 27, previous: 950_000, today: 950_100 }],
 ///     corrections: vec![],
 ///     positions: vec![Position { account: 11, mark: 0, lots: 10 }, Position { account: 12, mark: 0, lots: -4 }],
 /// };
@@ -77,7 +74,7 @@ pub fn settle(file: &[u8], amounts: &mut [i64]) -> Result<Settled, Refusal> {
     unsafe { sys::citronreef_settle(file.as_ptr(), file.len(), amounts.as_mut_ptr(), amounts.len()) }.answer()
 }
 
-/// The prices of the mark with this index of a day file that passes checks 1 to 13, 16 and 18, the correction that decides, and the
+/// The prices of the mark with this index of a day file that passes checks 1 to 13 and 16, the correction that decides, and the
 /// change in value of one contract. A file that does not pass is refused as `settle` refuses it; a mark that it does not have is
 /// refused with 12, and the index is the one asked for. So 12 has two meanings here: where [`find`] finds 12, a position of the file
 /// names no mark, and where it does not, the file has no such mark. The words of a [`Refusal`] go by its number alone and tell of
@@ -88,7 +85,7 @@ pub fn settle(file: &[u8], amounts: &mut [i64]) -> Result<Settled, Refusal> {
 /// use citronreef::{mark, Refusal};
 ///
 /// let day = Day {
-///     marks: vec![Mark { code: *b"IR", month: 3, year: 27, previous: 950_000, today: 950_200, increment: 100, padding: [0; 2] }],
+///     marks: vec![Mark { code: *b"IR", month: 3, year: 27, previous: 950_000, today: 950_200 }],
 ///     corrections: vec![Correction { number: 7, mark: 0, price: 950_100 }],
 ///     positions: vec![],
 /// };
@@ -104,7 +101,7 @@ pub fn mark(file: &[u8], mark: usize) -> Result<MarkPrices, Refusal> {
     unsafe { sys::citronreef_mark(file.as_ptr(), file.len(), mark) }.answer()
 }
 
-/// The first record of a day file where the condition of the check with this number, 1 to 13, 16 or 18, holds; none where it holds at
+/// The first record of a day file where the condition of the check with this number, 1 to 13 or 16, holds; none where it holds at
 /// nothing that is looked at, and for a number of no check. Each condition is looked for by itself, so that one may be found that
 /// vanishes once an earlier one is mended.
 ///
@@ -117,7 +114,7 @@ pub fn mark(file: &[u8], mark: usize) -> Result<MarkPrices, Refusal> {
 /// use citronreef::records::{Day, Mark, Position};
 ///
 /// let day = Day {
-///     marks: vec![Mark { code: *b"IR", month: 3, year: 27, previous: 950_000, today: 950_050, increment: 100, padding: [0; 2] }],
+///     marks: vec![Mark { code: *b"IR", month: 3, year: 27, previous: 950_000, today: 950_050 }],
 ///     corrections: vec![],
 ///     positions: [(11, 10), (12, 0), (11, -4)].map(|(account, lots)| Position { account, mark: 0, lots }).to_vec(),
 /// };
@@ -128,7 +125,7 @@ pub fn mark(file: &[u8], mark: usize) -> Result<MarkPrices, Refusal> {
 /// assert_eq!(find(&day.bytes(), 16), Some(2));
 /// assert_eq!(find(&day.bytes(), 14), None);
 /// // A file that is cut short has one whole position, and that one passes.
-/// assert_eq!((find(&day.bytes()[..60], 3), find(&day.bytes()[..60], 13)), (Some(0), None));
+/// assert_eq!((find(&day.bytes()[..50], 3), find(&day.bytes()[..50], 13)), (Some(0), None));
 /// ```
 pub fn find(file: &[u8], check: u32) -> Option<usize> {
     // SAFETY: as in `mark`.
@@ -154,30 +151,29 @@ pub fn write_sheet(file: &[u8], amounts: &mut [i64], out: &mut [u8]) -> usize {
 }
 
 /// No day file that is accepted is longer than this, in bytes.
-pub const FILE_SIZE: usize =
-    HEADER_SIZE + MARK_SIZE * MAX_MARKS + CORRECTION_SIZE * MAX_CORRECTIONS + POSITION_SIZE * MAX_POSITIONS;
+pub const FILE_SIZE: usize = HEADER_SIZE + RECORD_SIZE * (MAX_MARKS + MAX_CORRECTIONS + MAX_POSITIONS);
 
-/// Makes a day file of three lists, each lent as the bytes of its records, 16 for a mark and 12 for a correction or a position: writes
-/// it at the start of `out`, and answers its length. The other bytes of `out` stay; a refusal writes nothing. The file's sections are
-/// the three lists, and the lists of a file that passes make that file. `FILE_SIZE` bytes are enough for every file.
+/// Makes a day file of three lists, each lent as the bytes of its records, 12 for each: writes it at the start of `out`, and answers
+/// its length. The other bytes of `out` stay; a refusal writes nothing. The file's sections are the three lists, and the lists of a
+/// file that passes make that file. `FILE_SIZE` bytes are enough for every file.
 ///
 /// The checks are, in this order: 2, where a list has more whole records than a file may have; 3, where a list is not whole records;
-/// 4, 5, 18, 6 to 13 and 16, as of a file that has these lists; and 17, where `out` is shorter than the file. The index of 2, 3 and 17
-/// is 0. The words of a [`Refusal`] go by its number alone and do not say what 3 means here.
+/// 4 to 13 and 16, as of a file that has these lists; and 17, where `out` is shorter than the file. The index of 2, 3 and 17 is 0. The
+/// words of a [`Refusal`] go by its number alone and do not say what 3 means here.
 ///
 /// ```
 /// use citronreef::records::{Day, Mark, Position};
 /// use citronreef::{make, Refusal};
 ///
 /// let day = Day {
-///     marks: vec![Mark { code: *b"IR", month: 3, year: 27, previous: 950_000, today: 950_100, increment: 100, padding: [0; 2] }],
+///     marks: vec![Mark { code: *b"IR", month: 3, year: 27, previous: 950_000, today: 950_100 }],
 ///     corrections: vec![],
 ///     positions: vec![Position { account: 11, mark: 0, lots: 10 }, Position { account: 12, mark: 0, lots: -4 }],
 /// };
 /// let [marks, corrections, positions] = day.lists();
-/// let mut out = [0xEE; 68];
+/// let mut out = [0xEE; 64];
 /// let length = make(&marks, &corrections, &positions, &mut out)?;
-/// assert_eq!(length, 24 + 16 + 24);
+/// assert_eq!(length, 24 + 12 + 24);
 /// assert_eq!(out[..length], day.bytes());
 /// assert_eq!(out[length..], [0xEE; 4]);
 /// assert_eq!(make(&marks, &corrections, &positions, &mut out[..length - 1]), Err(Refusal::of(17)));

@@ -2,12 +2,8 @@
 
 /// The bytes of a day file's header: three counts, each with an offset.
 pub const HEADER_SIZE: usize = 24;
-/// The bytes of a mark.
-pub const MARK_SIZE: usize = 16;
-/// The bytes of a correction.
-pub const CORRECTION_SIZE: usize = 12;
-/// The bytes of a position.
-pub const POSITION_SIZE: usize = 12;
+/// The bytes of a mark, a correction and a position.
+pub const RECORD_SIZE: usize = 12;
 /// The most marks that a day file has.
 pub const MAX_MARKS: usize = 256;
 /// The most corrections that a day file has.
@@ -21,7 +17,7 @@ pub const PRICE_LIMIT: u32 = 1_000_000;
 /// The units of 0.0001 in a price of 1.
 pub const UNITS_PER_POINT: u32 = 10_000;
 
-/// A contract with its prices, and the increment in which it is quoted, in units of 0.0001.
+/// A contract with its prices in units of 0.0001.
 #[derive(Clone, Copy, Debug, PartialEq, Eq)]
 pub struct Mark {
     /// The product's code: two capital letters, where the mark passes the checks.
@@ -34,10 +30,6 @@ pub struct Mark {
     pub previous: u32,
     /// The settlement price of the day, before any correction.
     pub today: u32,
-    /// The day's increment: the product's tick, or its finest increment, where the mark passes the checks.
-    pub increment: u16,
-    /// The last two bytes, zero where the mark passes the checks.
-    pub padding: [u8; 2],
 }
 
 /// A price that takes the place of a mark's price of the day.
@@ -82,18 +74,21 @@ pub fn u32_at(bytes: &[u8], at: usize) -> u32 {
     u32::from_le_bytes(bytes[at..at + 4].try_into().expect("four bytes"))
 }
 
-/// A record of parts of four bytes, one after the other.
-fn packed<const SIZE: usize>(parts: &[[u8; 4]]) -> [u8; SIZE] {
-    std::array::from_fn(|at| parts[at / 4][at % 4])
+fn packed(head: [u8; 4], second: u32, third: u32) -> [u8; RECORD_SIZE] {
+    let mut record = [0; RECORD_SIZE];
+    record[..4].copy_from_slice(&head);
+    record[4..8].copy_from_slice(&second.to_le_bytes());
+    record[8..].copy_from_slice(&third.to_le_bytes());
+    record
 }
 
 impl Mark {
-    /// The record of the first 16 bytes. It panics where there are fewer.
+    /// The record of the first 12 bytes. It panics where there are fewer.
     ///
     /// ```
     /// use citronreef::records::Mark;
     ///
-    /// let record = Mark { code: *b"IR", month: 3, year: 27, previous: 1, today: 258, increment: 100, padding: [0, 7] };
+    /// let record = Mark { code: *b"IR", month: 3, year: 27, previous: 1, today: 258 };
     /// assert_eq!(Mark::read(&record.bytes()), record);
     /// ```
     pub fn read(record: &[u8]) -> Mark {
@@ -103,24 +98,19 @@ impl Mark {
             year: record[3],
             previous: u32_at(record, 4),
             today: u32_at(record, 8),
-            increment: u16::from_le_bytes([record[12], record[13]]),
-            padding: [record[14], record[15]],
         }
     }
 
-    /// The 16 bytes of the record.
+    /// The 12 bytes of the record.
     ///
     /// ```
     /// use citronreef::records::Mark;
     ///
-    /// let record = Mark { code: *b"IR", month: 3, year: 27, previous: 1, today: 258, increment: 100, padding: [0, 7] };
-    /// assert_eq!(record.bytes(), *b"IR\x03\x1B\x01\0\0\0\x02\x01\0\0\x64\0\0\x07");
+    /// let record = Mark { code: *b"IR", month: 3, year: 27, previous: 1, today: 258 };
+    /// assert_eq!(record.bytes(), *b"IR\x03\x1B\x01\0\0\0\x02\x01\0\0");
     /// ```
-    pub fn bytes(&self) -> [u8; MARK_SIZE] {
-        let contract = [self.code[0], self.code[1], self.month, self.year];
-        let [low, high] = self.increment.to_le_bytes();
-        let last = [low, high, self.padding[0], self.padding[1]];
-        packed(&[contract, self.previous.to_le_bytes(), self.today.to_le_bytes(), last])
+    pub fn bytes(&self) -> [u8; RECORD_SIZE] {
+        packed([self.code[0], self.code[1], self.month, self.year], self.previous, self.today)
     }
 }
 
@@ -145,8 +135,8 @@ impl Correction {
     /// let record = Correction { number: 7, mark: 1, price: 258 };
     /// assert_eq!(record.bytes(), [7, 0, 0, 0, 1, 0, 0, 0, 2, 1, 0, 0]);
     /// ```
-    pub fn bytes(&self) -> [u8; CORRECTION_SIZE] {
-        packed(&[self.number, self.mark, self.price].map(u32::to_le_bytes))
+    pub fn bytes(&self) -> [u8; RECORD_SIZE] {
+        packed(self.number.to_le_bytes(), self.mark, self.price)
     }
 }
 
@@ -171,19 +161,19 @@ impl Position {
     /// let record = Position { account: 11, mark: 1, lots: -4 };
     /// assert_eq!(record.bytes(), [11, 0, 0, 0, 1, 0, 0, 0, 0xFC, 0xFF, 0xFF, 0xFF]);
     /// ```
-    pub fn bytes(&self) -> [u8; POSITION_SIZE] {
-        packed(&[self.account, self.mark, self.lots as u32].map(u32::to_le_bytes))
+    pub fn bytes(&self) -> [u8; RECORD_SIZE] {
+        packed(self.account.to_le_bytes(), self.mark, self.lots as u32)
     }
 }
 
 /// The six header numbers that the layout has for these counts.
 ///
 /// ```
-/// assert_eq!(citronreef::records::header(1, 2, 2), [1, 24, 2, 40, 2, 64]);
+/// assert_eq!(citronreef::records::header(1, 2, 2), [1, 24, 2, 36, 2, 60]);
 /// ```
 pub fn header(marks: usize, corrections: usize, positions: usize) -> [usize; 6] {
-    let corrections_start = HEADER_SIZE + MARK_SIZE * marks;
-    let positions_start = corrections_start + CORRECTION_SIZE * corrections;
+    let corrections_start = HEADER_SIZE + RECORD_SIZE * marks;
+    let positions_start = corrections_start + RECORD_SIZE * corrections;
     [marks, HEADER_SIZE, corrections, corrections_start, positions, positions_start]
 }
 

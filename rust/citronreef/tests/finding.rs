@@ -1,10 +1,9 @@
 //! What `find` looks at, and how the two meanings of 4 and of 12 are told apart.
 
-use citronreef::records::{Correction, Day, Mark, Position, MAX_MARKS};
+use citronreef::records::{Day, Mark, Position, MAX_MARKS};
 use citronreef::{bracket, find, mark, settle, value, Refusal};
 
-const MARK: Mark =
-    Mark { code: *b"IR", month: 3, year: 27, previous: 950_000, today: 950_100, increment: 100, padding: [0; 2] };
+const MARK: Mark = Mark { code: *b"IR", month: 3, year: 27, previous: 950_000, today: 950_100 };
 const GOOD: Position = Position { account: 1, mark: 0, lots: 1 };
 const AGAIN: Position = Position { account: 1, mark: 0, lots: 5 };
 const NO_LOTS: Position = Position { account: 2, mark: 0, lots: 0 };
@@ -47,46 +46,6 @@ fn whole_records_alone() {
     assert_eq!(found(&whole), [(13, 1)]);
     assert_eq!(found(&whole[..whole.len() - 1]), [(3, 0)]);
     assert_eq!(found(&[&whole[..], &[0; 12]].concat()), [(3, 0), (13, 1)]);
-}
-
-/// All that is found in a file of this mark, and of a correction with this price that names it.
-fn found_of(mark: Mark, price: u32) -> Vec<(u32, usize)> {
-    let corrections = vec![Correction { number: 7, mark: 0, price }];
-    found(&Day { marks: vec![mark], corrections, positions: vec![] }.bytes())
-}
-
-/// An increment that is not allowed is still the one that today's price and a correction are judged by, and the previous price is
-/// judged by the product.
-#[test]
-fn increments() {
-    assert_eq!(found_of(MARK, 950_200), []);
-    assert_eq!(found_of(Mark { increment: 50, ..MARK }, 950_250), [(18, 0)]);
-    assert_eq!(found_of(Mark { increment: 50, previous: 950_050, ..MARK }, 950_200), [(7, 0), (18, 0)]);
-    assert_eq!(found_of(Mark { increment: 200, ..MARK }, 950_100), [(7, 0), (10, 0), (18, 0)]);
-    assert_eq!(found_of(Mark { padding: [0, 1], ..MARK }, 950_250), [(10, 0), (18, 0)]);
-    let bond = Mark { code: *b"XX", previous: 950_025, increment: 50, ..MARK };
-    assert_eq!(found_of(bond, 950_150), []);
-    assert_eq!(found_of(bond, 950_125), [(10, 0)]);
-    assert_eq!(found_of(Mark { today: 950_125, ..bond }, 950_150), [(7, 0)]);
-    assert_eq!(found_of(Mark { today: 950_125, increment: 25, ..bond }, 950_125), []);
-}
-
-/// 0 divides 0 alone.
-#[test]
-fn increment_of_0() {
-    let none = Mark { increment: 0, ..MARK };
-    assert_eq!(found_of(none, 0), [(7, 0), (18, 0)]);
-    assert_eq!(found_of(Mark { today: 0, ..none }, 0), [(18, 0)]);
-    assert_eq!(found_of(Mark { today: 0, ..none }, 950_100), [(10, 0), (18, 0)]);
-}
-
-/// A code in no table has neither months nor increments, and no finest increment to judge the previous price by.
-#[test]
-fn increments_of_no_product() {
-    let unlisted = Mark { code: *b"ZZ", previous: 950_001, ..MARK };
-    assert_eq!(found_of(unlisted, 950_200), [(4, 0), (5, 0), (18, 0)]);
-    assert_eq!(found_of(Mark { increment: 7, ..unlisted }, 950_200), [(4, 0), (5, 0), (7, 0), (10, 0), (18, 0)]);
-    assert_eq!(found_of(Mark { increment: 7, today: 700_007, ..unlisted }, 700_014), [(4, 0), (5, 0), (18, 0)]);
 }
 
 #[test]

@@ -25,11 +25,11 @@ fn words_are_those_of_the_table() {
     let text = text_of("docs/REFUSALS.md");
     let rows: Vec<_> = text.lines().filter_map(row).collect();
     let numbers: Vec<u32> = rows.iter().map(|&(number, _)| number).collect();
-    assert_eq!(numbers, [1, 2, 3, 4, 5, 18, 6, 7, 8, 9, 10, 11, 12, 13, 16, 14, 15, 17]);
+    assert_eq!(numbers, [1, 2, 3, 4, 5, 6, 7, 8, 9, 10, 11, 12, 13, 16, 14, 15, 17]);
     for (number, said) in rows {
         assert_eq!(words(number), said);
     }
-    for number in [0, 19, u32::MAX] {
+    for number in [0, 18, u32::MAX] {
         assert_eq!(words(number), "");
     }
 }
@@ -68,8 +68,7 @@ fn price_limit() {
 
 /// A contract of its own for each index.
 fn mark(index: usize) -> Mark {
-    let (month, year) = ((index % 12 + 1) as u8, (index / 12) as u8);
-    Mark { code: *b"IB", month, year, previous: 950_000, today: 950_100, increment: 50, padding: [0; 2] }
+    Mark { code: *b"IB", month: (index % 12 + 1) as u8, year: (index / 12) as u8, previous: 950_000, today: 950_100 }
 }
 
 fn day(marks: usize, corrections: usize, positions: usize) -> Day {

@@ -3,8 +3,7 @@
 use crate::ending::{complain, Failure};
 use crate::money::whole_text;
 use crate::output;
-use crate::prices::price_of;
-use crate::quoted::{code_of, escaped};
+use crate::quoted::{code_of, escaped, price_of};
 use citronreef::records::{MAX_CORRECTIONS, MAX_LOTS, MAX_MARKS, MAX_POSITIONS, PRICE_LIMIT, UNITS_PER_POINT};
 use clap::{Parser, Subcommand, ValueHint};
 use clap_complete::Shell;
@@ -56,7 +55,7 @@ pub enum Command {
     /// Print the value of one contract in dollars
     #[command(after_help = "Example:\n  citronreef value IR 95.01")]
     Value(Contract),
-    /// Print the value of one tick, from this price to the one a tick higher, in dollars
+    /// Print the value of one tick, from this price to the next higher one, in dollars
     #[command(after_help = "Example:\n  citronreef tick XT 95.335")]
     Tick(Contract),
     /// Print the bracket of a bond, with eight decimals

@@ -4,9 +4,8 @@ use crate::arguments::Contract;
 use crate::ending::{complain, Ended, Ending};
 use crate::money::plain_dollars;
 use crate::output;
-use crate::prices::price_text;
 use crate::products::product;
-use crate::quoted::{code_spelled, code_text};
+use crate::quoted::{code_spelled, code_text, price_text};
 use citronreef::Refusal;
 
 const BRACKET_UNITS: u64 = 100_000_000;
@@ -46,11 +45,11 @@ fn ended(contract: &Contract, answer: Result<u64, Refusal>, text: impl Fn(u64) -
 /// The check's words, and what of this contract meets them. The code of a product that is no bond is in the table all the same.
 fn why(contract: &Contract, refusal: Refusal) -> String {
     let (code, price) = (code_text(contract.code), price_text(contract.price));
-    let (tick, finest) = product(contract.code).map_or((0, 0), |product| (product.tick, product.finest));
+    let tick = product(contract.code).map_or(0, |product| product.tick);
     let here = match refusal.number {
         4 if tick > 0 => return format!("{code} is no bond, and only a bond has a bracket"),
         4 => format!("the code here is {}", code_spelled(contract.code)),
-        7 => format!("the price here is {price}, and the finest increment of {code} is {}", price_text(finest)),
+        7 => format!("the price here is {price}, and the tick of {code} is {}", price_text(tick)),
         15 => format!("one tick above {price} is {}", price_text(contract.price + tick)),
         _ => format!("the price here is {price}"),
     };

@@ -1,8 +1,6 @@
 //! The records of a day file, read by the layout as far as the file has them, and where each stands.
 
-use citronreef::records::{
-    header, u32_at, Correction, Day, Mark, Position, CORRECTION_SIZE, HEADER_SIZE, MARK_SIZE, POSITION_SIZE,
-};
+use citronreef::records::{u32_at, Correction, Day, Mark, Position, HEADER_SIZE, RECORD_SIZE};
 
 #[derive(Clone, Copy, Debug, PartialEq, Eq)]
 pub enum Section {
@@ -15,7 +13,7 @@ impl Section {
     /// The section whose records a check's index counts; none for a check that looks at no single record.
     pub fn of_check(number: u32) -> Option<Section> {
         match number {
-            4..=8 | 18 => Some(Section::Marks),
+            4..=8 => Some(Section::Marks),
             9..=11 => Some(Section::Corrections),
             12..=13 | 16 => Some(Section::Positions),
             _ => None,
@@ -30,15 +28,6 @@ impl Section {
             Section::Positions => "position",
         }
     }
-
-    /// The bytes of one record.
-    pub fn record_size(self) -> usize {
-        match self {
-            Section::Marks => MARK_SIZE,
-            Section::Corrections => CORRECTION_SIZE,
-            Section::Positions => POSITION_SIZE,
-        }
-    }
 }
 
 /// The six header numbers; all zero where the file is too short to have them.
@@ -51,22 +40,21 @@ pub fn header_of(file: &[u8]) -> [usize; 6] {
 
 /// Where a section's records start by the layout.
 fn start_of(file: &[u8], section: Section) -> usize {
-    let [marks, _, corrections, _, positions, _] = header_of(file);
-    let [_, marks_start, _, corrections_start, _, positions_start] = header(marks, corrections, positions);
+    let [marks, _, corrections, ..] = header_of(file);
     match section {
-        Section::Marks => marks_start,
-        Section::Corrections => corrections_start,
-        Section::Positions => positions_start,
+        Section::Marks => HEADER_SIZE,
+        Section::Corrections => HEADER_SIZE + RECORD_SIZE * marks,
+        Section::Positions => HEADER_SIZE + RECORD_SIZE * (marks + corrections),
     }
 }
 
 /// Where a record starts, in bytes from the file's start.
 pub fn offset_of(file: &[u8], section: Section, index: usize) -> usize {
-    start_of(file, section) + section.record_size() * index
+    start_of(file, section) + RECORD_SIZE * index
 }
 
 fn records(file: &[u8], section: Section, count: usize) -> impl Iterator<Item = &[u8]> {
-    file.get(start_of(file, section)..).unwrap_or_default().chunks_exact(section.record_size()).take(count)
+    file.get(start_of(file, section)..).unwrap_or_default().chunks_exact(RECORD_SIZE).take(count)
 }
 
 /// The three lists. A file that is too short for its counts has fewer records than they say.

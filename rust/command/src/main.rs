@@ -12,7 +12,6 @@ mod findings;
 mod input;
 mod money;
 mod output;
-mod prices;
 mod products;
 mod quoted;
 mod readable;

@@ -1,5 +1,5 @@
-//! What the command says of a product: its currency, increments and months. The library judges and values by its own table; the tests
-//! hold this one to its answers.
+//! What the command says of a product: its currency, tick and months. The library judges and values by its own table; the tests hold
+//! this one to its answers.
 
 pub const YEAR_LIMIT: u8 = 99;
 
@@ -23,8 +23,6 @@ pub struct Product {
     pub currency: Currency,
     /// In units of 0.0001.
     pub tick: u32,
-    /// The finest increment: a mark may be quoted in it, as in the tick.
-    pub finest: u32,
     pub months: &'static [u8],
 }
 
@@ -32,20 +30,13 @@ const QUARTERS: &[u8] = &[3, 6, 9, 12];
 const EVERY_MONTH: &[u8] = &[1, 2, 3, 4, 5, 6, 7, 8, 9, 10, 11, 12];
 
 pub static PRODUCTS: [Product; 6] = [
-    Product { code: *b"IR", currency: Currency::Aud, tick: 100, finest: 100, months: QUARTERS },
-    Product { code: *b"BB", currency: Currency::Nzd, tick: 100, finest: 100, months: QUARTERS },
-    Product { code: *b"IB", currency: Currency::Aud, tick: 50, finest: 50, months: EVERY_MONTH },
-    Product { code: *b"YT", currency: Currency::Aud, tick: 50, finest: 50, months: QUARTERS },
-    Product { code: *b"XT", currency: Currency::Aud, tick: 50, finest: 25, months: QUARTERS },
-    Product { code: *b"XX", currency: Currency::Aud, tick: 50, finest: 25, months: QUARTERS },
+    Product { code: *b"IR", currency: Currency::Aud, tick: 100, months: QUARTERS },
+    Product { code: *b"BB", currency: Currency::Nzd, tick: 100, months: QUARTERS },
+    Product { code: *b"IB", currency: Currency::Aud, tick: 50, months: EVERY_MONTH },
+    Product { code: *b"YT", currency: Currency::Aud, tick: 50, months: QUARTERS },
+    Product { code: *b"XT", currency: Currency::Aud, tick: 50, months: QUARTERS },
+    Product { code: *b"XX", currency: Currency::Aud, tick: 50, months: QUARTERS },
 ];
-
-impl Product {
-    /// Whether a mark may be quoted in this increment.
-    pub fn allows(&self, increment: u16) -> bool {
-        [self.tick, self.finest].contains(&increment.into())
-    }
-}
 
 pub fn product(code: [u8; 2]) -> Option<&'static Product> {
     PRODUCTS.iter().find(|product| product.code == code)
@@ -55,17 +46,14 @@ pub fn product(code: [u8; 2]) -> Option<&'static Product> {
 mod tests {
     use super::*;
     use citronreef::records::{Day, Mark, Position, PRICE_LIMIT};
-    use citronreef::{settle, tick_value, value};
+    use citronreef::{settle, value};
 
-    /// The answer to a file of one mark and ten lots of it. It rises by the largest tick, which is a multiple of all.
-    fn settled(mark: Mark) -> Result<citronreef::Settled, citronreef::Refusal> {
-        let positions = vec![Position { account: 1, mark: 0, lots: 10 }];
-        settle(&Day { marks: vec![mark], corrections: vec![], positions }.bytes(), &mut [0])
-    }
-
-    fn mark(product: &Product) -> Mark {
-        let (code, increment) = (product.code, product.tick as u16);
-        Mark { code, month: 3, year: 27, previous: 950_000, today: 950_100, increment, padding: [0; 2] }
+    /// The answer to a file of one mark and ten lots of it, which rises by twice its tick or by the tick of any product.
+    fn settled(code: [u8; 2], month: u8, year: u8) -> Result<citronreef::Settled, citronreef::Refusal> {
+        let mark = Mark { code, month, year, previous: 950_000, today: 950_100 };
+        let day =
+            Day { marks: vec![mark], corrections: vec![], positions: vec![Position { account: 1, mark: 0, lots: 10 }] };
+        settle(&day.bytes(), &mut [0])
     }
 
     #[test]
@@ -82,13 +70,13 @@ mod tests {
     fn months_years_and_currencies_are_the_librarys() {
         for product in &PRODUCTS {
             for month in 0..=255 {
-                let is_month = settled(Mark { month, ..mark(product) }).map_err(|refusal| refusal.number) != Err(5);
+                let is_month = settled(product.code, month, 27).map_err(|refusal| refusal.number) != Err(5);
                 assert_eq!(is_month, product.months.contains(&month));
             }
             for year in 0..=255 {
-                assert_eq!(settled(Mark { year, ..mark(product) }).is_ok(), year <= YEAR_LIMIT);
+                assert_eq!(settled(product.code, 3, year).is_ok(), year <= YEAR_LIMIT);
             }
-            let totals = settled(mark(product)).expect("a mark that passes");
+            let totals = settled(product.code, 3, 27).expect("a mark that passes");
             assert_eq!(
                 (totals.aud > 0, totals.nzd > 0),
                 (product.currency == Currency::Aud, product.currency == Currency::Nzd)
@@ -97,24 +85,12 @@ mod tests {
     }
 
     #[test]
-    fn increments_and_the_price_limit_are_the_librarys() {
+    fn ticks_and_the_price_limit_are_the_librarys() {
         for product in &PRODUCTS {
             for price in 0..=PRICE_LIMIT {
-                assert_eq!(value(product.code, price).is_ok(), price % product.finest == 0);
-            }
-            for increment in 0..=u16::MAX {
-                let mark = Mark { previous: 0, today: 0, increment, ..mark(product) };
-                assert_eq!(settled(mark).is_ok(), product.allows(increment), "{:?} in {increment}", product.code);
+                assert_eq!(value(product.code, price).is_ok(), price % product.tick == 0);
             }
             assert_eq!(value(product.code, PRICE_LIMIT + 1).map_err(|refusal| refusal.number), Err(6));
-        }
-    }
-
-    #[test]
-    fn ticks_are_the_librarys() {
-        for product in &PRODUCTS {
-            let value_at = |price| value(product.code, price).expect("a price that passes");
-            assert_eq!(tick_value(product.code, 950_000), Ok(value_at(950_000 + product.tick) - value_at(950_000)));
         }
     }
 }

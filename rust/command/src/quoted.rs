@@ -1,12 +1,41 @@
-//! Codes, contracts and other words as people write them.
+//! Prices and contracts as people write them.
 
 use citronreef::records::Mark;
 use std::path::Path;
 
 const MONTHS: [&str; 12] = ["Jan", "Feb", "Mar", "Apr", "May", "Jun", "Jul", "Aug", "Sep", "Oct", "Nov", "Dec"];
+const UNITS: u32 = 10_000;
+const DECIMALS: usize = 4;
+
+/// A price as quoted, with two to four decimals: 950100 units are 95.01.
+pub fn price_text(units: u32) -> String {
+    let decimals = format!("{:04}", units % UNITS);
+    let kept = decimals.trim_end_matches('0').len().max(2);
+    format!("{}.{}", units / UNITS, &decimals[..kept])
+}
+
+/// The units of 0.0001 that a price means: `95.01`, or `950100u` for units. A number without a point is no price.
+pub fn price_of(word: &str) -> Result<u32, String> {
+    if let Some(units) = word.strip_suffix('u') {
+        return digits(units)
+            .ok_or_else(|| format!("{} is no number of units: write digits and u, as in 950100u", told(word)));
+    }
+    if digits(word).is_some() {
+        return Err(format!("{word} has no decimal point: write {word}.00, or {word}u for units of 0.0001"));
+    }
+    let no_price = |why: &str| Err(format!("{} is no price: {why}", told(word)));
+    let (whole, decimals) = match word.split_once('.') {
+        Some(parts) if all_digits(parts.0) && all_digits(parts.1) => parts,
+        _ => return no_price("write digits with a point, as in 95.01"),
+    };
+    if decimals.len() > DECIMALS {
+        return no_price("it has one to four decimals, as in 95.01");
+    }
+    digits(&format!("{whole}{decimals:0<DECIMALS$}")).map_or_else(|| no_price("the largest is 429496.7295"), Ok)
+}
 
 /// Whether a word has digits and nothing else.
-pub fn all_digits(word: &str) -> bool {
+fn all_digits(word: &str) -> bool {
     !word.is_empty() && word.bytes().all(|byte| byte.is_ascii_digit())
 }
 
@@ -19,7 +48,7 @@ pub fn digits(word: &str) -> Option<u32> {
 pub fn code_text(code: [u8; 2]) -> String {
     match code.iter().all(u8::is_ascii_uppercase) {
         true => code.iter().map(|&byte| char::from(byte)).collect(),
-        false => format!("0x{}", bytes_text(code)),
+        false => format!("0x{:02x}{:02x}", code[0], code[1]),
     }
 }
 
@@ -38,17 +67,6 @@ pub fn code_of(word: &str) -> Result<[u8; 2], String> {
             Err(format!("{} is no code: write two capital letters, as in IR, or 0x and four hexadecimal digits", told(word)))
         }
     }
-}
-
-/// Two bytes as four hexadecimal digits, in their order.
-pub fn bytes_text([first, second]: [u8; 2]) -> String {
-    format!("{first:02x}{second:02x}")
-}
-
-/// The two bytes that four hexadecimal digits mean.
-pub fn bytes_of(word: &str) -> Result<[u8; 2], String> {
-    let no_bytes = || format!("{} is no pair of bytes: write four hexadecimal digits, as in 0700", told(word));
-    hexadecimal(word).map(u16::to_be_bytes).ok_or_else(no_bytes)
 }
 
 /// A number of four hexadecimal digits.
@@ -122,14 +140,48 @@ mod tests {
     use super::*;
 
     #[test]
-    fn pairs_of_bytes_come_back_from_their_text() {
-        for bytes in (0..=u16::MAX).map(u16::to_le_bytes) {
-            assert_eq!(bytes_of(&bytes_text(bytes)), Ok(bytes));
+    fn prices_come_back_from_their_text() {
+        for units in (0..=1_010_000).step_by(7).chain([u32::MAX, 1, 10, 100, 1_000, 10_000]) {
+            assert_eq!(price_of(&price_text(units)), Ok(units));
+            assert_eq!(price_of(&format!("{units}u")), Ok(units));
         }
-        assert_eq!((bytes_of("0700"), bytes_of("00fF")), (Ok([7, 0]), Ok([0, 255])));
-        for word in ["", "7", "07", "070", "07000", "070g", "+700", "0x07"] {
-            let says = format!("{word} is no pair of bytes: write four hexadecimal digits, as in 0700");
-            assert_eq!(bytes_of(word), Err(says));
+        assert_eq!(price_text(950_100), "95.01");
+        assert_eq!(price_text(953_455), "95.3455");
+        assert_eq!(price_text(1_000_000), "100.00");
+    }
+
+    #[test]
+    fn what_is_no_price_is_told() {
+        for word in [
+            "100",
+            "",
+            ".",
+            "95.",
+            ".5",
+            "95.00001",
+            "-1.0",
+            "+1.0",
+            "1e3",
+            "u",
+            "-5u",
+            "429496.7296",
+            "4294967296u",
+            "9 5.0",
+        ] {
+            assert!(price_of(word).is_err(), "{word}");
+        }
+    }
+
+    #[test]
+    fn what_is_wrong_with_a_price_is_told() {
+        for (word, says) in [
+            ("100", "100 has no decimal point: write 100.00, or 100u for units of 0.0001"),
+            ("95,01", "95,01 is no price: write digits with a point, as in 95.01"),
+            ("95.00001", "95.00001 is no price: it has one to four decimals, as in 95.01"),
+            ("429496.7296", "429496.7296 is no price: the largest is 429496.7295"),
+            ("-5u", "-5u is no number of units: write digits and u, as in 950100u"),
+        ] {
+            assert_eq!(price_of(word), Err(says.to_string()));
         }
     }
 

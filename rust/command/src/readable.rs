@@ -130,9 +130,9 @@ mod tests {
     fn headers_that_make_other_records() {
         let marks = "mark IR 3 27 95.00 95.01\nmark BB 3 27 95.00 95.02\n";
         for (header, line) in [
-            ("2 24 0 56 1 56", "bytes 0b000000 00000000 05000000"),
-            ("2 24 1 56 0 68", "position 7 @0 950000"),
-            ("2 24 0 56 1 56", "correction 7 @0 0.0005"),
+            ("2 24 0 48 1 48", "bytes 0b000000 00000000 05000000"),
+            ("2 24 1 48 0 60", "position 7 @0 950000"),
+            ("2 24 0 48 1 48", "correction 7 @0 0.0005"),
         ] {
             assert!(is_accepted(&format!("header {header}\n{marks}{line}\n")));
         }

@@ -11,11 +11,9 @@ fn contracts() {
     for (call, number, told) in [
         (["value", "ZZ", "95.00"], 4, "the code here is ZZ"),
         (["tick", "IR", "100.01"], 6, "the price here is 100.01"),
-        (["value", "IR", "95.005"], 7, "the price here is 95.005, and the finest increment of IR is 0.01"),
-        (["bracket", "YT", "940001u"], 7, "the price here is 94.0001, and the finest increment of YT is 0.005"),
-        (["tick", "XX", "95.001"], 7, "the price here is 95.001, and the finest increment of XX is 0.0025"),
+        (["value", "IR", "95.005"], 7, "the price here is 95.005, and the tick of IR is 0.01"),
+        (["bracket", "YT", "940001u"], 7, "the price here is 94.0001, and the tick of YT is 0.005"),
         (["tick", "IR", "100.00"], 15, "one tick above 100.00 is 100.01"),
-        (["tick", "XT", "99.9975"], 15, "one tick above 99.9975 is 100.0025"),
     ] {
         let Ran { status, out, err } = run(&call, b"");
         assert_eq!((status, out.as_str()), (1, ""));

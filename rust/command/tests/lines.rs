@@ -26,7 +26,7 @@ fn told(text: &str, lines: &[&str]) {
 fn a_text_is_told_by_its_lines() {
     let text = include_str!("../../../samples/day.txt").replace("1002 BB/3/27 -120", "1002 BB/3/27 0");
     let line = 1 + text.lines().position(|line| line.starts_with("position 1002 BB")).expect("the position");
-    let head = format!("  position 2 (the 3rd of 7), line {line} of the text, 12 bytes from byte 192 of the file");
+    let head = format!("  position 2 (the 3rd of 7), line {line} of the text, 12 bytes from byte 168 of the file");
     told(&text, &["refused 13 at 2: a position's lots are 0, below -1,000,000 or above 1,000,000", &head]);
     let forgotten = run(&["explain"], text.as_bytes());
     assert_eq!(forgotten.status, 1);
@@ -41,45 +41,43 @@ fn an_account_that_is_keyed_twice() {
         text,
         &[
             "refused 16 at 2: two positions agree in account and mark",
-            "  position 0 (the 1st of 3), line 2 of the text, 12 bytes from byte 40 of the file",
-            "  position 2 (the 3rd of 3), line 5 of the text, 12 bytes from byte 64 of the file",
+            "  position 0 (the 1st of 3), line 2 of the text, 12 bytes from byte 36 of the file",
+            "  position 2 (the 3rd of 3), line 5 of the text, 12 bytes from byte 60 of the file",
             "    account         1001          <-- the same in both",
             "    mark            0, IR Mar 27  <-- the same in both",
         ],
     );
 }
 
-/// The header counts other records than the text has: the last three marks are cut as four corrections, of which the third starts
-/// within the mark of line 4, and the correction as a position.
+/// The header counts other records than the text has: the second mark is cut as a correction, and the correction as a position.
 #[test]
 fn a_header_that_counts_otherwise() {
-    let marks = ["IR", "BB", "XT", "YT"].map(|code| format!("mark {code} 3 27 95.00 95.02\n")).concat();
-    let text = format!("header 1 24 4 40 2 88\n{marks}correction 7 @0 95.00\nposition 1 @0 0\n");
+    let marks = "mark IR 3 27 95.00 95.01\nmark BB 3 27 95.00 95.02\n";
+    let text = format!("header 1 24 1 36 2 48\n{marks}correction 7 @0 95.00\nposition 1 @0 0\n");
     told(
         &text,
         &[
             "refused 9 at 0: a correction names no mark",
-            "  correction 0 (the 1st of 4), line 3 of the text, 12 bytes from byte 40 of the file",
-            "  10 at 2: a correction's price is above 100.0000, or is not a multiple of its mark's increment (correction 2, number 950200; line 4 of the text, byte 64 of the file)",
-            "  13 at 1: a position's lots are 0, below -1,000,000 or above 1,000,000 (position 1, account 1; line 7 of the text, byte 100 of the file)",
+            "  correction 0 (the 1st of 1), line 3 of the text, 12 bytes from byte 36 of the file",
+            "  13 at 1: a position's lots are 0, below -1,000,000 or above 1,000,000 (position 1, account 1; line 5 of the text, byte 60 of the file)",
         ],
     );
 }
 
-/// The position and some further bytes are cut as a mark, and the other bytes as a position.
+/// The position is cut as a mark, and the further bytes as a position.
 #[test]
 fn a_record_among_further_bytes() {
-    let text = "header 2 24 0 56 1 56\nmark IR 3 27 95.00 95.01\nbytes 64 00 00 00 01 00\nbytes 00000000000000000000\nposition 1 @0 5\n";
+    let text = "header 2 24 0 48 1 48\nmark IR 3 27 95.00 95.01\nbytes 01 00 00 00 00 00\nbytes 00 00 00 00 00 00\nposition 1 @0 5\n";
     told(
         text,
         &[
             "refused 4 at 1: a mark's code is not in the product table",
-            "  mark 1 (the 2nd of 2), line 5 of the text, 16 bytes from byte 40 of the file",
-            "  13 at 0: a position's lots are 0, below -1,000,000 or above 1,000,000 (position 0, account 1; line 3 of the text, byte 56 of the file)",
+            "  mark 1 (the 2nd of 2), line 5 of the text, 12 bytes from byte 36 of the file",
+            "  13 at 0: a position's lots are 0, below -1,000,000 or above 1,000,000 (position 0, account 1; line 3 of the text, byte 48 of the file)",
         ],
     );
-    let one = "header 2 24 0 56 1 56\nmark IR 3 27 95.00 95.01\nbytes 00000000000000000000000000000000\nposition 1 @0 5\n";
-    told(one, &["  mark 1 (the 2nd of 2), line 4 of the text, 16 bytes from byte 40 of the file"]);
+    let one = "header 2 24 0 48 1 48\nmark IR 3 27 95.00 95.01\nbytes 000000000000000000000000\nposition 1 @0 5\n";
+    told(one, &["  mark 1 (the 2nd of 2), line 4 of the text, 12 bytes from byte 36 of the file"]);
 }
 
 #[test]

@@ -7,7 +7,6 @@ mod table;
 use citronreef::records::*;
 use citronreef::{settle, Refusal};
 use days::{damaged, sample};
-use oracles::days::old_file;
 use oracles::plain::{read, same_contract, same_holding};
 use oracles::products::YEAR_LIMIT;
 use oracles::random::Random;
@@ -57,37 +56,23 @@ fn header_and_length() {
         ],
     );
     has_lines(
-        &explained(&with_header(3, 121), 3, 0),
+        &explained(&with_header(3, 97), 3, 0),
         &[
-            "  offset of the corrections       12            121            120  <-- differs",
-            "  offset of the positions         20            168            168",
-            "  length in bytes                               252            252",
+            "  offset of the corrections       12             97             96  <-- differs",
+            "  offset of the positions         20            144            144",
+            "  length in bytes                               228            228",
         ],
     );
     let mut longer = sample().bytes();
     longer.push(0);
     let text = explained(&longer, 3, 0);
-    has_lines(&text, &["  length in bytes                               253            252  <-- differs"]);
+    has_lines(&text, &["  length in bytes                               229            228  <-- differs"]);
     assert!(!text.contains(UNREAD), "{text}");
-}
-
-/// The sample day with marks of 12 bytes: each number after them differs.
-#[test]
-fn the_old_layout() {
-    has_lines(
-        &explained(&old_file(&sample()), 3, 0),
-        &[
-            "  offset of the marks              4             24             24",
-            "  offset of the corrections       12             96            120  <-- differs",
-            "  offset of the positions         20            144            168  <-- differs",
-            "  length in bytes                               228            252  <-- differs",
-        ],
-    );
 }
 
 #[test]
 fn marks() {
-    let head = "  mark 3 (the 4th of 6), 16 bytes from byte 72 of the file";
+    let head = "  mark 3 (the 4th of 6), 12 bytes from byte 60 of the file";
     edited(|day| day.marks[3].code = *b"YZ", 4, 3, &[head, "    code            YZ      <-- not in the product table"]);
     edited(|day| day.marks[3].code = *b"yt", 4, 3, &["    code            0x7974 (\"yt\")  <-- not in the product table"]);
     edited(
@@ -108,66 +93,7 @@ fn marks() {
         |day| day.marks[3].today = 956_425,
         7,
         3,
-        &[head, "    previous price  95.61", "    today's price   95.6425  <-- no multiple of 0.005, the day's increment"],
-    );
-    edited(
-        |day| day.marks[3].previous = 956_125,
-        7,
-        3,
-        &["    previous price  95.6125  <-- no multiple of 0.005, the finest increment of YT", "    today's price   95.645"],
-    );
-}
-
-/// XT may be quoted in 0.0025 as well: its previous price is judged by that, whatever the day's increment is.
-#[test]
-fn prices_by_the_increments() {
-    let mut day = sample();
-    (day.marks[4].previous, day.marks[4].increment) = (952_925, 25);
-    (day.marks[4].today, day.corrections[0].price, day.corrections[3].price) = (953_375, 953_475, 953_475);
-    assert_eq!(run(&["explain"], &day.bytes()).status, 0);
-    edited(
-        |edited| *edited = Day { marks: edited.marks.clone(), ..day.clone() },
-        10,
-        0,
-        &["    price           95.3475       <-- no multiple of 0.005, the increment of its mark"],
-    );
-    edited(
-        |edited| edited.marks[4] = Mark { increment: 50, ..day.marks[4] },
-        7,
-        4,
-        &["    previous price  95.2925", "    today's price   95.3375  <-- no multiple of 0.005, the day's increment"],
-    );
-    edited(
-        |edited| edited.marks[4] = Mark { previous: 952_910, ..day.marks[4] },
-        7,
-        4,
-        &[
-            "    previous price  95.291   <-- no multiple of 0.0025, the finest increment of XT",
-            "    today's price   95.3375",
-        ],
-    );
-}
-
-#[test]
-fn increments() {
-    let head = "  mark 4 (the 5th of 6), 16 bytes from byte 88 of the file";
-    edited(
-        |day| day.marks[4].increment = 100,
-        18,
-        4,
-        &[head, "    increment       0.01    <-- XT is quoted in 0.005 or 0.0025", "    last two bytes  0000"],
-    );
-    edited(
-        |day| (day.marks[3].increment, day.marks[3].padding) = (25, [0, 7]),
-        18,
-        3,
-        &["    increment       0.0025  <-- YT is quoted in 0.005", "    last two bytes  0007    <-- not zero"],
-    );
-    edited(
-        |day| day.marks[4].padding = [7, 0],
-        18,
-        4,
-        &[head, "    increment       0.005", "    last two bytes  0700    <-- not zero"],
+        &[head, "    previous price  95.61", "    today's price   95.6425  <-- no multiple of 0.005, the tick of YT"],
     );
 }
 
@@ -178,11 +104,11 @@ fn two_marks_of_one_contract() {
         8,
         5,
         &[
-            "  mark 1 (the 2nd of 6), 16 bytes from byte 40 of the file",
+            "  mark 1 (the 2nd of 6), 12 bytes from byte 36 of the file",
             "    code            BB     <-- the same in both",
             "    month           3      <-- the same in both",
             "    year            27     <-- the same in both",
-            "  mark 5 (the 6th of 6), 16 bytes from byte 104 of the file",
+            "  mark 5 (the 6th of 6), 12 bytes from byte 84 of the file",
             "    today's price   0.00",
         ],
     );
@@ -190,7 +116,7 @@ fn two_marks_of_one_contract() {
 
 #[test]
 fn corrections() {
-    let head = "  correction 2 (the 3rd of 4), 12 bytes from byte 144 of the file";
+    let head = "  correction 2 (the 3rd of 4), 12 bytes from byte 120 of the file";
     edited(
         |day| day.corrections[2].mark = 6,
         9,
@@ -204,7 +130,7 @@ fn corrections() {
         &[
             head,
             "    mark            1, BB Mar 27",
-            "    price           95.415        <-- no multiple of 0.01, the increment of its mark",
+            "    price           95.415        <-- no multiple of 0.01, the tick of BB",
         ],
     );
     edited(
@@ -222,11 +148,11 @@ fn two_corrections_of_one_number() {
         11,
         3,
         &[
-            "  correction 0 (the 1st of 4), 12 bytes from byte 120 of the file",
+            "  correction 0 (the 1st of 4), 12 bytes from byte 96 of the file",
             "    number          31            <-- the same in both",
             "    mark            4, XT Mar 27  <-- differs",
             "    price           95.345",
-            "  correction 3 (the 4th of 4), 12 bytes from byte 156 of the file",
+            "  correction 3 (the 4th of 4), 12 bytes from byte 132 of the file",
             "    mark            3, YT Mar 27  <-- differs",
         ],
     );
@@ -234,7 +160,7 @@ fn two_corrections_of_one_number() {
 
 #[test]
 fn positions() {
-    let head = "  position 4 (the 5th of 7), 12 bytes from byte 216 of the file";
+    let head = "  position 4 (the 5th of 7), 12 bytes from byte 192 of the file";
     edited(
         |day| day.positions[4].mark = 4_294_967_295,
         12,
@@ -257,11 +183,11 @@ fn two_positions_of_one_account_and_mark() {
         16,
         5,
         &[
-            "  position 1 (the 2nd of 7), 12 bytes from byte 180 of the file",
+            "  position 1 (the 2nd of 7), 12 bytes from byte 156 of the file",
             "    account         1001          <-- the same in both",
             "    mark            4, XT Mar 27  <-- the same in both",
             "    lots            -40",
-            "  position 5 (the 6th of 7), 12 bytes from byte 228 of the file",
+            "  position 5 (the 6th of 7), 12 bytes from byte 204 of the file",
             "    lots            7",
         ],
     );
@@ -281,28 +207,26 @@ fn shown(text: &str) -> Vec<(usize, usize)> {
 /// The records that have to be shown: for a clash the first earlier one that the record clashes with, and the record.
 fn involved(day: &Day, Refusal { number, index }: Refusal) -> Vec<(usize, usize)> {
     let starts = header(day.marks.len(), day.corrections.len(), day.positions.len());
-    let (start, size) = match number {
-        4..=8 | 18 => (starts[1], MARK_SIZE),
-        9..=11 => (starts[3], CORRECTION_SIZE),
-        _ => (starts[5], POSITION_SIZE),
-    };
-    let earlier = (0..index).find(|&other| match number {
-        8 => same_contract(&day.marks[other], &day.marks[index]),
+    let (start, earlier) = match number {
+        8 => (starts[1], (0..index).find(|&other| same_contract(&day.marks[other], &day.marks[index]))),
+        4..=7 => (starts[1], None),
         11 => {
-            let [earlier, later] = [other, index].map(|index| day.corrections[index]);
-            earlier.number == later.number && earlier != later
+            let record = day.corrections[index];
+            let clashes = |other: &Correction| other.number == record.number && *other != record;
+            (starts[3], (0..index).find(|&other| clashes(&day.corrections[other])))
         }
-        16 => same_holding(&day.positions[other], &day.positions[index]),
-        _ => false,
-    });
-    earlier.into_iter().chain([index]).map(|index| (index, start + size * index)).collect()
+        9..=10 => (starts[3], None),
+        16 => (starts[5], (0..index).find(|&other| same_holding(&day.positions[other], &day.positions[index]))),
+        _ => (starts[5], None),
+    };
+    earlier.into_iter().chain([index]).map(|index| (index, start + RECORD_SIZE * index)).collect()
 }
 
 /// Each is refused as the library refuses it, with its records and an arrow at what is wrong.
 #[test]
 fn damaged_files() {
     let mut random = Random::new(3_039_177_861);
-    let mut met = [0; 19];
+    let mut met = [0; 17];
     for _ in 0..1_500 {
         let file = damaged(&mut random);
         if let Err(refusal) = settle(&file, &mut [0; MAX_POSITIONS]) {
@@ -313,5 +237,5 @@ fn damaged_files() {
             met[refusal.number as usize] += 1;
         }
     }
-    assert!((1..=13).chain([16, 18]).all(|number| met[number] > 2), "refused by checks 1 to 13, 16 and 18: {met:?}");
+    assert!((1..=13).chain([16]).all(|number| met[number] > 2), "refused by checks 1 to 13 and 16: {met:?}");
 }

@@ -1,6 +1,6 @@
 //! `citronreef make` and `citronreef show` as processes.
 
-use citronreef::records::{header, MAX_CORRECTIONS, MAX_MARKS, MAX_POSITIONS, POSITION_SIZE};
+use citronreef::records::{header, MAX_CORRECTIONS, MAX_MARKS, MAX_POSITIONS, RECORD_SIZE};
 use citronreef::FILE_SIZE;
 use oracles::days::{damage_bytes, damage_record, day, day_of};
 use oracles::random::Random;
@@ -109,7 +109,7 @@ fn any_bytes_come_back() {
 #[test]
 fn as_many_bytes_as_are_shown_come_back() {
     let length: usize = 1 << 20;
-    let positions = (length / POSITION_SIZE) as u32;
+    let positions = (length / RECORD_SIZE) as u32;
     let mut file: Vec<u8> =
         [0, u32::MAX, 0, u32::MAX, positions, u32::MAX].iter().flat_map(|n: &u32| n.to_le_bytes()).collect();
     let longest = [[0xff; 8], [0, 0, 0, 0x80, 0xff, 0xff, 0xff, 0xff]].concat();
@@ -136,6 +136,6 @@ fn a_file_that_is_refused_is_written_only_when_asked_for() {
     assert_eq!((output.status.code(), out.exists()), (Some(1), false));
     assert!(!output.stderr.is_empty());
     written(&["make", "--anyway", "-o", path], text);
-    assert_eq!(fs::read(&out).expect("the file that was made").len(), 52);
+    assert_eq!(fs::read(&out).expect("the file that was made").len(), 48);
     fs::remove_file(&out).expect("the file that was made");
 }

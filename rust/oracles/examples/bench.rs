@@ -3,9 +3,9 @@
 //!
 //!   rt check sheet && rt staticlib citronreef && cd rust && cargo build --release --examples && cargo run --release --example bench
 
-use citronreef::records::{u32_at, Day, MAX_CORRECTIONS, MAX_MARKS, MAX_POSITIONS, POSITION_SIZE};
+use citronreef::records::{u32_at, Day, MAX_CORRECTIONS, MAX_MARKS, MAX_POSITIONS, RECORD_SIZE};
 use citronreef::{make, settle, tick_value, value, write_sheet, Refusal, Settled, FILE_SIZE, SHEET_SIZE};
-use oracles::days::{day_of, day_of_products, product_of};
+use oracles::days::{day_of, day_of_products};
 use oracles::products::{self, Product, PRICE_LIMIT, PRODUCTS};
 use oracles::random::Random;
 use oracles::sheet::sheet;
@@ -115,14 +115,6 @@ fn with_long_walks(day: Day) -> Day {
     with_products(day, |index| index * 16_384)
 }
 
-/// Every mark is quoted in its product's finest increment.
-fn with_finest_increments(mut day: Day) -> Day {
-    for mark in &mut day.marks {
-        mark.increment = product_of(mark).finest as u16;
-    }
-    day
-}
-
 fn with_equal_corrections(mut day: Day) -> Day {
     let first = day.corrections[0];
     day.corrections.fill(first);
@@ -181,7 +173,7 @@ fn scattered(number: u32) -> u32 {
 /// Gives each position an account of its own, none of them foreseen.
 fn renew_accounts(random: &mut Random, positions: &mut [u8]) {
     let first = random.number() as u32;
-    for (index, record) in positions.chunks_exact_mut(POSITION_SIZE).enumerate() {
+    for (index, record) in positions.chunks_exact_mut(RECORD_SIZE).enumerate() {
         let account = scattered(first.wrapping_add(index as u32));
         record[..4].copy_from_slice(&account.to_le_bytes());
     }
@@ -190,7 +182,7 @@ fn renew_accounts(random: &mut Random, positions: &mut [u8]) {
 /// The same with both places of each position in the first 64th.
 fn renew_crowded(random: &mut Random, positions: &mut [u8]) {
     let mut numbers = crowd(random.number() as u32);
-    for record in positions.chunks_exact_mut(POSITION_SIZE) {
+    for record in positions.chunks_exact_mut(RECORD_SIZE) {
         let account = crowded_account(&mut numbers, u32_at(record, 4));
         record[..4].copy_from_slice(&account.to_le_bytes());
     }
@@ -217,7 +209,6 @@ fn other_days(random: &mut Random) -> Vec<(&'static str, Day)> {
         ("long walks", with_long_walks(day_of_products(random, &PRODUCTS, full))),
         ("bills only", of(random, &[*b"IR", *b"BB"])),
         ("longest bonds only", of(random, &[*b"XX"])),
-        ("XT, XX in 0.0025", with_finest_increments(of(random, &[*b"XT", *b"XX"]))),
         ("1 mark", with_distinct_numbers(day_of(random, 1, MAX_CORRECTIONS, MAX_POSITIONS))),
         ("1 mark, uncorrected", day_of(random, 1, 0, MAX_POSITIONS)),
         ("1 mark, in order", with_holdings(day_of(random, 1, 0, MAX_POSITIONS), |index| (index, 0))),

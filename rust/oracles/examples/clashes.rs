@@ -41,7 +41,7 @@ fn crowded(random: &mut Random) -> Day {
 
 fn main() {
     let mut random = Random::new(41_421_356_237);
-    let mut met = [0usize; 19];
+    let mut met = [0usize; 17];
     for _ in 0..FILES {
         let day = crowded(&mut random);
         let file = day.bytes();

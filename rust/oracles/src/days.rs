@@ -1,33 +1,29 @@
-//! Random days that pass every check, ways to damage their files, and their files in the old layout.
+//! Random days that pass every check, and ways to damage their files.
 
 use crate::products::{Product, PRICE_LIMIT, PRODUCTS, YEAR_LIMIT};
 use crate::random::Random;
 use citronreef::records::*;
 use std::collections::{HashMap, HashSet};
 
-/// A price on an increment: any, or one near the last place where most days trade.
-fn price(random: &mut Random, increment: u32) -> u32 {
-    let most = PRICE_LIMIT / increment;
-    let times = match random.below(4) {
-        0 => random.below(most as usize + 1) as u32,
-        1 => random.pick(&[0, 1, most - 1, most]),
-        _ => most - random.below(most as usize / 8) as u32,
+/// A price that a product allows: any, or one near the last place where most days trade.
+pub fn price(random: &mut Random, product: &Product) -> u32 {
+    let ticks = PRICE_LIMIT / product.tick;
+    let tick = match random.below(4) {
+        0 => random.below(ticks as usize + 1) as u32,
+        1 => random.pick(&[0, 1, ticks - 1, ticks]),
+        _ => ticks - random.below(ticks as usize / 8) as u32,
     };
-    times * increment
+    tick * product.tick
 }
 
-/// A mark that is quoted in the tick or in the finest increment. Its previous price may be finer than the day's increment.
 fn mark(random: &mut Random, products: &[Product]) -> Mark {
     let product = &products[random.below(products.len())];
-    let increment = random.pick(&[product.tick, product.finest]);
     Mark {
         code: product.code,
         month: random.pick(product.months),
         year: random.below(usize::from(YEAR_LIMIT) + 1) as u8,
-        previous: price(random, product.finest),
-        today: price(random, increment),
-        increment: increment as u16,
-        padding: [0; 2],
+        previous: price(random, product),
+        today: price(random, product),
     }
 }
 
@@ -55,7 +51,7 @@ fn corrections(random: &mut Random, marks: &[Mark], count: usize) -> Vec<Correct
     while corrections.len() < count {
         let number = if random.one_in(3) { random.number() as u32 } else { random.below(2 * count) as u32 };
         let mark = random.below(marks.len());
-        let price = price(random, marks[mark].increment.into());
+        let price = price(random, product_of(&marks[mark]));
         corrections.push(*made.entry(number).or_insert(Correction { number, mark: mark as u32, price }));
     }
     corrections
@@ -115,30 +111,20 @@ fn some_index<T>(random: &mut Random, list: &[T]) -> Option<usize> {
     (!list.is_empty()).then(|| random.below(list.len()))
 }
 
-const ODD_NUMBERS: [u32; 13] = [0, 1, 23, 24, 25, 36, 40, 255, 1_000_000, 1_000_001, 0x7FFF_FFFF, 0x8000_0000, 0xFFFF_FFFF];
-
-/// Increments that are allowed for some product or for none. Some have the bytes of 25, 50 or 100 in other places.
-const ODD_INCREMENTS: [u16; 18] =
-    [0, 1, 5, 10, 20, 24, 25, 26, 49, 50, 75, 100, 200, 0x1900, 0x3200, 0x0132, 0x6464, 0xFFFF];
-
-/// What is added to a price, to put it off some increments.
-const STEPS: [u32; 5] = [1, 25, 50, 100, u32::MAX];
+const ODD_NUMBERS: [u32; 12] = [0, 1, 23, 24, 25, 36, 255, 1_000_000, 1_000_001, 0x7FFF_FFFF, 0x8000_0000, 0xFFFF_FFFF];
 
 fn damage_mark(random: &mut Random, day: &mut Day) -> Option<()> {
     let index = some_index(random, &day.marks)?;
     let other = day.marks[random.below(day.marks.len())];
     let mark = &mut day.marks[index];
-    match random.below(10) {
+    match random.below(7) {
         0 => mark.code = random.pick(&[*b"ZZ", *b"ir", *b"RI", [0, 0], *b"XI"]),
         1 => mark.month = random.pick(&[0, 1, 2, 4, 13, 16, 32, 255]),
         2 => mark.year = random.pick(&[YEAR_LIMIT, YEAR_LIMIT + 1, 128, 255]),
         3 => mark.previous = random.pick(&[PRICE_LIMIT + 1, PRICE_LIMIT + 50, PRICE_LIMIT + 100, u32::MAX]),
         4 => mark.today = random.pick(&[PRICE_LIMIT, PRICE_LIMIT + 1, PRICE_LIMIT + 100, u32::MAX]),
-        5 => mark.previous = mark.previous.wrapping_add(random.pick(&STEPS)),
-        6 => mark.today = mark.today.wrapping_add(random.pick(&STEPS)),
-        7 => mark.increment = random.pick(&ODD_INCREMENTS),
-        8 => mark.padding = random.pick(&[[1, 0], [0, 1], [7, 0], [0, 128], [255, 255]]),
-        _ => *mark = Mark { today: random.pick(&[mark.today, other.today]), ..other },
+        5 => mark.previous = mark.previous.wrapping_add(random.pick(&[1, 25, 50, u32::MAX])),
+        _ => *mark = Mark { today: mark.today, ..other },
     }
     Some(())
 }
@@ -151,7 +137,7 @@ fn damage_correction(random: &mut Random, day: &mut Day) -> Option<()> {
     match random.below(4) {
         0 => correction.mark = random.pick(&[0, marks - 1, marks, marks + 1, u32::MAX]),
         1 => correction.price = random.pick(&[0, PRICE_LIMIT, PRICE_LIMIT + 1, PRICE_LIMIT + 100, u32::MAX]),
-        2 => correction.price = correction.price.wrapping_add(random.pick(&STEPS)),
+        2 => correction.price = correction.price.wrapping_add(random.pick(&[1, 25, 50, 100, u32::MAX])),
         _ => correction.number = other.number,
     }
     Some(())
@@ -190,25 +176,11 @@ pub fn damage_bytes(random: &mut Random, file: &mut Vec<u8>) {
             file[at..at + 4].copy_from_slice(&number.to_le_bytes());
         }
         1 => file.truncate(random.below(file.len() + 1)),
-        2 => file.resize(file.len() + 1 + random.below(2 * MARK_SIZE), 0),
+        2 => file.resize(file.len() + 1 + random.below(2 * RECORD_SIZE), 0),
         _ if !file.is_empty() => {
             let at = random.below(file.len());
             file[at] ^= 1 << random.below(8);
         }
         _ => {}
     }
-}
-
-/// The bytes of a mark in the old layout, which ends with today's price.
-const OLD_MARK_SIZE: usize = 12;
-
-/// The file of a day in the old layout: the same header and records, but for the marks and the two offsets after them.
-pub fn old_file(day: &Day) -> Vec<u8> {
-    let [marks, corrections, positions] = day.lists();
-    let old_marks: Vec<u8> = marks.chunks_exact(MARK_SIZE).flat_map(|mark| &mark[..OLD_MARK_SIZE]).copied().collect();
-    let mut numbers = header(day.marks.len(), day.corrections.len(), day.positions.len());
-    let shorter_by = marks.len() - old_marks.len();
-    [3, 5].iter().for_each(|&offset| numbers[offset] -= shorter_by);
-    let header: Vec<u8> = numbers.iter().flat_map(|&number| (number as u32).to_le_bytes()).collect();
-    [header, old_marks, corrections, positions].concat()
 }

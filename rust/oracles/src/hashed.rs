@@ -63,11 +63,11 @@ fn check_numbers(corrections: &[Correction]) -> Result<usize, Refusal> {
     Ok(resent)
 }
 
-/// Checks 4 to 13, 16 and 18, each mark's product, and the resent count.
+/// Checks 4 to 13 and 16, each mark's product, and the resent count.
 fn check_day(day: &Day) -> Result<(Vec<&'static Product>, usize), Refusal> {
     let products = plain::check_marks(&day.marks)?;
     check_keys(8, &day.marks, contract)?;
-    plain::check_corrections(&day.corrections, &day.marks)?;
+    plain::check_corrections(&day.corrections, &products)?;
     let resent = check_numbers(&day.corrections)?;
     plain::check_positions(&day.positions, day.marks.len())?;
     check_keys(16, &day.positions, holding)?;

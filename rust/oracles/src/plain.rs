@@ -5,9 +5,6 @@ use crate::products::{product, Currency, Product, PRICE_LIMIT, YEAR_LIMIT};
 use citronreef::records::*;
 use citronreef::{Refusal, Settled};
 
-/// The bytes of a record of each list.
-pub const SIZES: [usize; 3] = [MARK_SIZE, CORRECTION_SIZE, POSITION_SIZE];
-
 /// Check 2.
 fn check_counts([marks, corrections, positions]: [usize; 3]) -> Result<(), Refusal> {
     match marks > MAX_MARKS || corrections > MAX_CORRECTIONS || positions > MAX_POSITIONS {
@@ -22,35 +19,35 @@ pub fn read(file: &[u8]) -> Result<Day, Refusal> {
         return Err(Refusal::of(1));
     }
     let numbers: [usize; 6] = std::array::from_fn(|i| u32_at(file, 4 * i) as usize);
-    let [marks, marks_start, corrections, corrections_start, positions, positions_start] = numbers;
+    let [marks, _, corrections, _, positions, positions_start] = numbers;
     check_counts([marks, corrections, positions])?;
-    if numbers != header(marks, corrections, positions) || file.len() != positions_start + POSITION_SIZE * positions {
+    if numbers != header(marks, corrections, positions) || file.len() != positions_start + RECORD_SIZE * positions {
         return Err(Refusal::of(3));
     }
-    Ok(records([&file[marks_start..corrections_start], &file[corrections_start..positions_start], &file[positions_start..]]))
+    let mut records = file[HEADER_SIZE..].chunks_exact(RECORD_SIZE);
+    Ok(Day {
+        marks: records.by_ref().take(marks).map(Mark::read).collect(),
+        corrections: records.by_ref().take(corrections).map(Correction::read).collect(),
+        positions: records.map(Position::read).collect(),
+    })
 }
 
-/// The records of three lists.
-fn records([marks, corrections, positions]: [&[u8]; 3]) -> Day {
-    Day {
-        marks: marks.chunks_exact(MARK_SIZE).map(Mark::read).collect(),
-        corrections: corrections.chunks_exact(CORRECTION_SIZE).map(Correction::read).collect(),
-        positions: positions.chunks_exact(POSITION_SIZE).map(Position::read).collect(),
-    }
-}
-
-/// How many whole records each list has.
-fn counts(lists: [&[u8]; 3]) -> [usize; 3] {
-    std::array::from_fn(|list| lists[list].len() / SIZES[list])
+fn records<T>(list: &[u8], read: fn(&[u8]) -> T) -> Vec<T> {
+    list.chunks_exact(RECORD_SIZE).map(read).collect()
 }
 
 /// Checks 2 and 3 of lent lists, and their records.
 pub fn listed(lists: [&[u8]; 3]) -> Result<Day, Refusal> {
-    check_counts(counts(lists))?;
-    if lists.iter().zip(SIZES).any(|(list, size)| list.len() % size != 0) {
+    check_counts(lists.map(|list| list.len() / RECORD_SIZE))?;
+    if lists.iter().any(|list| list.len() % RECORD_SIZE != 0) {
         return Err(Refusal::of(3));
     }
-    Ok(records(lists))
+    let [marks, corrections, positions] = lists;
+    Ok(Day {
+        marks: records(marks, Mark::read),
+        corrections: records(corrections, Correction::read),
+        positions: records(positions, Position::read),
+    })
 }
 
 /// Check `number` over a list: the first record that fails it.
@@ -71,20 +68,14 @@ pub fn check_pairs<T>(number: u32, records: &[T], clash: impl Fn(&T, &T) -> bool
     Ok(())
 }
 
-/// Whether a price is no multiple of the day's increment of a mark that passes check 18.
-fn is_off_increment(mark: &Mark, price: u32) -> bool {
-    price % u32::from(mark.increment) != 0
-}
-
-/// Checks 4, 5, 18, 6 and 7, and each mark's product.
+/// Checks 4 to 7, and each mark's product.
 pub fn check_marks(marks: &[Mark]) -> Result<Vec<&'static Product>, Refusal> {
     check(4, marks, |mark| product(mark.code).is_none())?;
     let products: Vec<&Product> = marks.iter().filter_map(|mark| product(mark.code)).collect();
     let listed: Vec<(&Mark, &Product)> = marks.iter().zip(products.iter().copied()).collect();
     check(5, &listed, |(mark, product)| !product.months.contains(&mark.month) || mark.year > YEAR_LIMIT)?;
-    check(18, &listed, |(mark, product)| !product.allows(mark.increment) || mark.padding != [0, 0])?;
     check(6, &listed, |(mark, _)| mark.previous > PRICE_LIMIT || mark.today > PRICE_LIMIT)?;
-    check(7, &listed, |(mark, product)| product.is_off_finest(mark.previous) || is_off_increment(mark, mark.today))?;
+    check(7, &listed, |(mark, product)| product.is_off_tick(mark.previous) || product.is_off_tick(mark.today))?;
     Ok(products)
 }
 
@@ -92,10 +83,10 @@ pub fn same_contract(mark: &Mark, other: &Mark) -> bool {
     mark.code == other.code && mark.month == other.month && mark.year == other.year
 }
 
-/// Checks 9 and 10, where the marks pass check 18.
-pub fn check_corrections(corrections: &[Correction], marks: &[Mark]) -> Result<(), Refusal> {
-    check(9, corrections, |c| c.mark as usize >= marks.len())?;
-    check(10, corrections, |c| c.price > PRICE_LIMIT || is_off_increment(&marks[c.mark as usize], c.price))
+/// Checks 9 and 10.
+pub fn check_corrections(corrections: &[Correction], products: &[&Product]) -> Result<(), Refusal> {
+    check(9, corrections, |c| c.mark as usize >= products.len())?;
+    check(10, corrections, |c| c.price > PRICE_LIMIT || products[c.mark as usize].is_off_tick(c.price))
 }
 
 /// Checks 12 and 13.
@@ -109,11 +100,11 @@ pub fn same_holding(position: &Position, other: &Position) -> bool {
     position.account == other.account && position.mark == other.mark
 }
 
-/// Checks 4 to 13, 16 and 18, and each mark's product.
+/// Checks 4 to 13 and 16, and each mark's product.
 fn check_day(day: &Day) -> Result<Vec<&'static Product>, Refusal> {
     let products = check_marks(&day.marks)?;
     check_pairs(8, &day.marks, same_contract)?;
-    check_corrections(&day.corrections, &day.marks)?;
+    check_corrections(&day.corrections, &products)?;
     check_pairs(11, &day.corrections, |c, other| c.number == other.number && c != other)?;
     check_positions(&day.positions, day.marks.len())?;
     check_pairs(16, &day.positions, same_holding)?;
@@ -189,9 +180,9 @@ pub fn settle(file: &[u8], amounts: &mut [i64]) -> Result<Settled, Refusal> {
 
 /// Check 17, and the file of three lists of whole records at the start of `out`. Answers the file's length.
 pub fn write_file(lists: [&[u8]; 3], out: &mut [u8]) -> Result<usize, Refusal> {
-    let [marks, corrections, positions] = counts(lists);
+    let [marks, corrections, positions] = lists.map(|list| list.len() / RECORD_SIZE);
     let numbers = header(marks, corrections, positions);
-    let length = numbers[5] + POSITION_SIZE * positions;
+    let length = numbers[5] + RECORD_SIZE * positions;
     let file = out.get_mut(..length).ok_or(Refusal::of(17))?;
     for (number, place) in numbers.iter().zip(file.chunks_exact_mut(4)) {
         place.copy_from_slice(&(*number as u32).to_le_bytes());

@@ -1,5 +1,5 @@
 //! The product table and the value of one contract, in whole numbers of 64 bits: written from document 01, "Prices and
-//! products" and "Value of one contract", and with the increments that XT and XX have near expiry.
+//! products" and "Value of one contract".
 
 use citronreef::Refusal;
 
@@ -31,8 +31,6 @@ pub struct Product {
     pub terms: Terms,
     pub currency: Currency,
     pub tick: u32,
-    /// The finest increment, in which a mark may be quoted as well as in the tick.
-    pub finest: u32,
     pub months: &'static [u8],
     /// The accuracy figure, in thousandths of a cent for each lot.
     pub accuracy: u64,
@@ -43,12 +41,12 @@ const EVERY_MONTH: &[u8] = &[1, 2, 3, 4, 5, 6, 7, 8, 9, 10, 11, 12];
 
 #[rustfmt::skip]
 pub static PRODUCTS: [Product; 6] = [
-    Product { code: *b"IR", terms: Terms::Bill, currency: Currency::Aud, tick: 100, finest: 100, months: QUARTERS, accuracy: 1_000 },
-    Product { code: *b"BB", terms: Terms::Bill, currency: Currency::Nzd, tick: 100, finest: 100, months: QUARTERS, accuracy: 1_000 },
-    Product { code: *b"IB", terms: Terms::CashRate { cents: 2_466 }, currency: Currency::Aud, tick: 50, finest: 50, months: EVERY_MONTH, accuracy: 0 },
-    Product { code: *b"YT", terms: Terms::Bond { face: 100_000, coupon: 3, halves: 6 }, currency: Currency::Aud, tick: 50, finest: 50, months: QUARTERS, accuracy: 2_208 },
-    Product { code: *b"XT", terms: Terms::Bond { face: 100_000, coupon: 3, halves: 20 }, currency: Currency::Aud, tick: 50, finest: 25, months: QUARTERS, accuracy: 6_100 },
-    Product { code: *b"XX", terms: Terms::Bond { face: 50_000, coupon: 2, halves: 40 }, currency: Currency::Aud, tick: 50, finest: 25, months: QUARTERS, accuracy: 6_550 },
+    Product { code: *b"IR", terms: Terms::Bill, currency: Currency::Aud, tick: 100, months: QUARTERS, accuracy: 1_000 },
+    Product { code: *b"BB", terms: Terms::Bill, currency: Currency::Nzd, tick: 100, months: QUARTERS, accuracy: 1_000 },
+    Product { code: *b"IB", terms: Terms::CashRate { cents: 2_466 }, currency: Currency::Aud, tick: 50, months: EVERY_MONTH, accuracy: 0 },
+    Product { code: *b"YT", terms: Terms::Bond { face: 100_000, coupon: 3, halves: 6 }, currency: Currency::Aud, tick: 50, months: QUARTERS, accuracy: 2_208 },
+    Product { code: *b"XT", terms: Terms::Bond { face: 100_000, coupon: 3, halves: 20 }, currency: Currency::Aud, tick: 50, months: QUARTERS, accuracy: 6_100 },
+    Product { code: *b"XX", terms: Terms::Bond { face: 50_000, coupon: 2, halves: 40 }, currency: Currency::Aud, tick: 50, months: QUARTERS, accuracy: 6_550 },
 ];
 
 pub fn product(code: [u8; 2]) -> Option<&'static Product> {
@@ -86,14 +84,8 @@ impl Product {
         }
     }
 
-    /// Whether a mark may be quoted in this increment.
-    pub fn allows(&self, increment: u16) -> bool {
-        [self.tick, self.finest].contains(&increment.into())
-    }
-
-    /// Whether a price is no multiple of the finest increment.
-    pub fn is_off_finest(&self, price: u32) -> bool {
-        price % self.finest != 0
+    pub fn is_off_tick(&self, price: u32) -> bool {
+        price % self.tick != 0
     }
 }
 
@@ -103,7 +95,7 @@ fn checked(code: [u8; 2], price: u32) -> Result<&'static Product, Refusal> {
     if price > PRICE_LIMIT {
         return Err(Refusal::of(6));
     }
-    if product.is_off_finest(price) {
+    if product.is_off_tick(price) {
         return Err(Refusal::of(7));
     }
     Ok(product)

@@ -11,9 +11,9 @@ fn assert_agree(code: [u8; 2], price: u32) {
 }
 
 #[test]
-fn every_price_within_the_limit_and_on_the_finest_increment() {
+fn every_price_within_the_limit_and_on_the_tick() {
     for product in &PRODUCTS {
-        for price in (0..=PRICE_LIMIT).step_by(product.finest as usize) {
+        for price in (0..=PRICE_LIMIT).step_by(product.tick as usize) {
             assert_agree(product.code, price);
         }
     }
@@ -60,22 +60,6 @@ fn figures_of_document_01() {
     assert_eq!(value(*b"XT", 1_000_000), Ok(16_000_000));
     assert_eq!(value(*b"XX", 1_000_000), Ok(9_000_000));
     assert_eq!(value(*b"IR", 950_050), Err(Refusal::of(7)));
-    assert_eq!(value(*b"YT", 950_025), Err(Refusal::of(7)));
     assert_eq!(value(*b"IR", 1_000_001), Err(Refusal::of(6)));
     assert_eq!(bracket(*b"IR", 1_000_001), Err(Refusal::of(4)));
-}
-
-/// XT and XX have values at prices finer than their tick, and one tick is still 50.
-#[test]
-fn prices_finer_than_the_tick() {
-    for code in [*b"XT", *b"XX"] {
-        let at = |price| value(code, price).expect("a price on the finest increment");
-        for price in [0, 25, 950_000, 950_025, 999_925, 999_950] {
-            assert_eq!(tick_value(code, price), Ok(at(price + 50) - at(price)));
-        }
-        assert_eq!([999_975, 1_000_000].map(|price| tick_value(code, price)), [Err(Refusal::of(15)); 2]);
-        assert_eq!([1, 10, 24, 26, 950_010].map(|price| value(code, price)), [Err(Refusal::of(7)); 5]);
-        assert_eq!(value(code, 1_000_025), Err(Refusal::of(6)));
-        assert!(bracket(code, 950_025).is_ok());
-    }
 }

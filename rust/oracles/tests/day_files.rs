@@ -2,10 +2,10 @@
 
 mod lent;
 
-use citronreef::records::{Correction, Day, Mark, Position, HEADER_SIZE, MAX_CORRECTIONS, MAX_MARKS, MAX_POSITIONS};
+use citronreef::records::{Correction, Day, Mark, Position, MAX_CORRECTIONS, MAX_MARKS, MAX_POSITIONS};
 use citronreef::{settle, write_sheet, Refusal, Settled, SHEET_SIZE};
 use lent::{agreed, settled_into};
-use oracles::days::{damage_bytes, damage_record, day, day_of, old_file};
+use oracles::days::{damage_bytes, damage_record, day, day_of};
 use oracles::random::Random;
 use oracles::sheet::sheet;
 
@@ -20,19 +20,17 @@ fn places(random: &mut Random, positions: usize) -> usize {
 
 /// The case of document 01.
 fn day_of_document_01() -> Day {
-    let mark = Mark { code: *b"IR", month: 3, year: 18, previous: 950_000, today: 950_200, increment: 100, padding: [0; 2] };
+    let correction = Correction { number: 7, mark: 0, price: 950_100 };
     Day {
-        marks: vec![mark],
-        corrections: vec![Correction { number: 7, mark: 0, price: 950_100 }; 2],
+        marks: vec![Mark { code: *b"IR", month: 3, year: 18, previous: 950_000, today: 950_200 }],
+        corrections: vec![correction; 2],
         positions: vec![Position { account: 11, mark: 0, lots: 10 }, Position { account: 12, mark: 0, lots: -4 }],
     }
 }
 
 #[test]
 fn case_of_document_01() {
-    let file = day_of_document_01().bytes();
-    assert_eq!((file.len(), file[12], file[20]), (88, 40, 64));
-    let (answer, amounts) = settled_into(settle, &file, 2);
+    let (answer, amounts) = settled_into(settle, &day_of_document_01().bytes(), 2);
     assert_eq!(answer, Ok(Settled { positions: 2, aud: 14_436, nzd: 0, resent: 1 }));
     assert_eq!(amounts, [24_060, -9_624]);
 }
@@ -62,7 +60,7 @@ fn valid_files() {
 #[test]
 fn damaged_files_meet_every_check() {
     let mut random = Random::new(88_172_645_463_325_252);
-    let mut met = [0; 19];
+    let mut met = [0; 17];
     for _ in 0..200_000 {
         let mut day = day(&mut random);
         (0..random.below(4)).for_each(|_| damage_record(&mut random, &mut day));
@@ -75,8 +73,8 @@ fn damaged_files_meet_every_check() {
             Err(refusal) => met[refusal.number as usize] += 1,
         }
     }
-    let enough = (0..=14).chain([16, 18]).all(|number| met[number] > 50);
-    assert!(enough, "accepted, and refused by checks 1 to 14, 16 and 18: {met:?}");
+    let enough = (0..=14).chain([16]).all(|number| met[number] > 50);
+    assert!(enough, "accepted, and refused by checks 1 to 14 and 16: {met:?}");
 }
 
 #[test]
@@ -105,23 +103,6 @@ fn every_flipped_bit() {
             let _ = agreed(&flipped, 8);
         }
     }
-}
-
-/// There a mark has 12 bytes. Such a file is refused with 3 where it has a mark, and is the same file where it has none.
-#[test]
-fn files_in_the_old_layout() {
-    let mut random = Random::new(12_000_016);
-    for _ in 0..20_000 {
-        let day = day(&mut random);
-        let file = old_file(&day);
-        match day.marks.is_empty() {
-            true => assert_eq!(file, day.bytes()),
-            false => assert_eq!(agreed(&file, day.positions.len()), Err(Refusal::of(3))),
-        }
-    }
-    let numbers: Vec<u8> = [1, 24, 2, 36, 2, 60].iter().flat_map(|number: &u32| number.to_le_bytes()).collect();
-    let file = old_file(&day_of_document_01());
-    assert_eq!((&file[..HEADER_SIZE], file.len()), (&numbers[..], 84));
 }
 
 #[test]

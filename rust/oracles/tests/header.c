@@ -6,9 +6,9 @@
 #include <inttypes.h>
 #include <stdio.h>
 
-static const uint8_t file[88] = {
-    1, 0, 0, 0, 24, 0, 0, 0, 2, 0, 0, 0, 40, 0, 0, 0, 2, 0, 0, 0, 64, 0, 0, 0, /* header: 1 24 2 40 2 64 */
-    'I', 'R', 3, 18, 0xF0, 0x7E, 0x0E, 0, 0xB8, 0x7F, 0x0E, 0, 100, 0, 0, 0,   /* IR 3 18, 950,000 to 950,200 by 100 */
+static const uint8_t file[84] = {
+    1, 0, 0, 0, 24, 0, 0, 0, 2, 0, 0, 0, 36, 0, 0, 0, 2, 0, 0, 0, 60, 0, 0, 0, /* header: 1 24 2 36 2 60 */
+    'I', 'R', 3, 18, 0xF0, 0x7E, 0x0E, 0, 0xB8, 0x7F, 0x0E, 0,                 /* IR 3 18, from 950,000 to 950,200 */
     7, 0, 0, 0, 0, 0, 0, 0, 0x54, 0x7F, 0x0E, 0,                               /* 7, mark 0, 950,100 */
     7, 0, 0, 0, 0, 0, 0, 0, 0x54, 0x7F, 0x0E, 0,                               /* sent again */
     11, 0, 0, 0, 0, 0, 0, 0, 10, 0, 0, 0,                                      /* account 11, mark 0, 10 lots */
@@ -39,8 +39,7 @@ static void print_found(citronreef_found f)
 
 _Static_assert(CITRONREEF_SHEET_SIZE == 47 * CITRONREEF_MAX_POSITIONS + 90, "room for the longest sheet");
 _Static_assert(CITRONREEF_PRICE_LIMIT == 100 * CITRONREEF_UNITS_PER_POINT, "no price is above 100.0000");
-_Static_assert(CITRONREEF_FILE_SIZE
-                   == 24 + 16 * CITRONREEF_MAX_MARKS + 12 * (CITRONREEF_MAX_CORRECTIONS + CITRONREEF_MAX_POSITIONS),
+_Static_assert(CITRONREEF_FILE_SIZE == 24 + 12 * (CITRONREEF_MAX_MARKS + CITRONREEF_MAX_CORRECTIONS + CITRONREEF_MAX_POSITIONS),
                "room for the longest file");
 
 static uint8_t out[CITRONREEF_SHEET_SIZE], again[CITRONREEF_FILE_SIZE];
@@ -60,7 +59,7 @@ int main(void)
     print_found(citronreef_find(file, sizeof file, 3));
     print_found(citronreef_find(file, sizeof file - 1, 3));
     printf("%zu\n", citronreef_sheet(file, sizeof file, amounts, 3, out, sizeof out - 1));
-    citronreef_made made = citronreef_make(file + 24, 16, file + 40, 24, file + 64, 24, again, sizeof again);
+    citronreef_made made = citronreef_make(file + 24, 12, file + 36, 24, file + 60, 24, again, sizeof again);
     fwrite(out, 1, citronreef_sheet(again, made.length, amounts, 3, out, sizeof out), stdout);
     return made.refused != 0 || made.index != 0;
 }

@@ -8,7 +8,6 @@ use citronreef::records::*;
 use citronreef::{Refusal, Settled, FILE_SIZE};
 use makers::{agreed, assert_made_of_its_lists, length_of, made_into, sections, settled, Lists};
 use oracles::days::{damage_bytes, damage_record, day, day_of};
-use oracles::plain::SIZES;
 use oracles::random::Random;
 use std::fs;
 use std::path::Path;
@@ -36,7 +35,7 @@ fn assert_refused(lists: &Lists, refusal: Refusal) {
 fn damage_length(random: &mut Random, list: &mut Vec<u8>) {
     match random.below(2) {
         0 => list.truncate(random.below(list.len() + 1)),
-        _ => list.resize(list.len() + 1 + random.below(3 * MARK_SIZE), 0),
+        _ => list.resize(list.len() + 1 + random.below(3 * RECORD_SIZE), 0),
     }
 }
 
@@ -50,20 +49,20 @@ fn damaged(random: &mut Random) -> Lists {
         damage_length(random, &mut lists[list]);
     }
     if random.one_in(100) {
-        let list = random.below(3);
-        lists[list].resize(SIZES[list] * random.pick(&[257, 513, 4_097]) + random.below(SIZES[list]), 1);
+        let list = &mut lists[random.below(3)];
+        list.resize(RECORD_SIZE * random.pick(&[257, 513, 4_097]) + random.below(RECORD_SIZE), 1);
     }
     lists
 }
 
 #[test]
 fn case_of_document_01() {
-    let marks = b"IR\x03\x12\xF0\x7E\x0E\0\xB8\x7F\x0E\0\x64\0\0\0".to_vec();
+    let marks = b"IR\x03\x12\xF0\x7E\x0E\0\xB8\x7F\x0E\0".to_vec();
     let corrections = b"\x07\0\0\0\0\0\0\0\x54\x7F\x0E\0".repeat(2);
     let positions = b"\x0B\0\0\0\0\0\0\0\x0A\0\0\0\x0C\0\0\0\0\0\0\0\xFC\xFF\xFF\xFF".to_vec();
-    let header = b"\x01\0\0\0\x18\0\0\0\x02\0\0\0\x28\0\0\0\x02\0\0\0\x40\0\0\0";
+    let header = b"\x01\0\0\0\x18\0\0\0\x02\0\0\0\x24\0\0\0\x02\0\0\0\x3C\0\0\0";
     let file = [&header[..], &marks, &corrections, &positions].concat();
-    assert_eq!(agreed(&[marks, corrections, positions], 88), Ok(file));
+    assert_eq!(agreed(&[marks, corrections, positions], 84), Ok(file));
 }
 
 #[test]
@@ -89,7 +88,7 @@ fn valid_lists() {
 #[test]
 fn damaged_lists_meet_every_check() {
     let mut random = Random::new(2_862_933_555);
-    let mut met = [0; 19];
+    let mut met = [0; 18];
     for _ in 0..100_000 {
         let lists = damaged(&mut random);
         let room = room(&mut random, length_of(&lists));
@@ -98,8 +97,8 @@ fn damaged_lists_meet_every_check() {
             Err(refusal) => met[refusal.number as usize] += 1,
         }
     }
-    let enough = [0, 16, 17, 18].into_iter().chain(2..=13).all(|number| met[number] > 50);
-    assert!(enough, "accepted, and refused by checks 2 to 13 and 16 to 18: {met:?}");
+    let enough = [0, 16, 17].into_iter().chain(2..=13).all(|number| met[number] > 50);
+    assert!(enough, "accepted, and refused by checks 2 to 13, 16 and 17: {met:?}");
     assert_eq!([1, 14, 15].map(|number| met[number]), [0; 3]);
 }
 
@@ -173,7 +172,7 @@ fn corrections_sent_again() {
 fn every_room() {
     let lists = day_of(&mut Random::new(1_181_783_497), 3, 4, 5).lists();
     let length = length_of(&lists);
-    assert_eq!(length, 24 + 16 * 3 + 12 * 9);
+    assert_eq!(length, 24 + 12 * 12);
     for room in (0..length + 40).chain([1_000, 65_536, 1 << 20]) {
         let expected = if room < length { Err(Refusal::of(17)) } else { Ok(length) };
         assert_eq!(agreed(&lists, room).map(|file| file.len()), expected);
@@ -184,11 +183,11 @@ fn every_room() {
 fn every_length_of_a_list() {
     let whole = day_of(&mut Random::new(2_147_001_325), 3, 4, 5).lists();
     for list in 0..3 {
-        for length in 0..whole[list].len() + 3 * SIZES[list] {
+        for length in 0..whole[list].len() + 3 * RECORD_SIZE {
             let mut lists = whole.clone();
             lists[list].resize(length, 7);
             let answer = agreed(&lists, 1_000);
-            assert_eq!(answer == Err(Refusal::of(3)), length % SIZES[list] != 0, "{length} bytes of list {list}");
+            assert_eq!(answer == Err(Refusal::of(3)), length % RECORD_SIZE != 0, "{length} bytes of list {list}");
         }
     }
 }
@@ -209,8 +208,8 @@ fn every_flipped_bit() {
 fn any_bytes() {
     let mut random = Random::new(9_876_543_211);
     for _ in 0..20_000 {
-        let lists: Lists = std::array::from_fn(|list| {
-            let part = random.pick(&[1, SIZES[list]]);
+        let lists: Lists = std::array::from_fn(|_| {
+            let part = random.pick(&[1, RECORD_SIZE]);
             (0..random.below(60) / part * part).map(|_| random.number() as u8 & random.number() as u8).collect()
         });
         let _ = agreed(&lists, random.below(200));
@@ -226,8 +225,8 @@ fn counts_at_the_limits_and_above() {
     assert!(agreed(&full, length).is_ok());
     assert_eq!(agreed(&full, length - 1), Err(Refusal::of(17)));
     for list in 0..3 {
-        for more in 1..=2 * SIZES[list] {
-            let refusal = Refusal::of(if more < SIZES[list] { 3 } else { 2 });
+        for more in 1..=2 * RECORD_SIZE {
+            let refusal = Refusal::of(if more < RECORD_SIZE { 3 } else { 2 });
             let mut lists = full.clone();
             lists[list].resize(full[list].len() + more, 0);
             assert_refused(&lists, refusal);
@@ -252,14 +251,14 @@ fn places_of_3_and_17_among_the_checks() {
     day.positions[1] = Position { lots: 5, ..day.positions[0] };
     assert_refused(&day.lists(), Refusal { number: 16, index: 1 });
     day.positions.pop();
-    assert_eq!(agreed(&day.lists(), 51), Err(Refusal::of(17)));
+    assert_eq!(agreed(&day.lists(), 47), Err(Refusal::of(17)));
 }
 
 #[test]
 fn lists_of_many_megabytes() {
     let long = vec![1; 40 << 20];
     for list in 0..3 {
-        for length in [(40 << 20) - 1, (40 << 20) / SIZES[list] * SIZES[list]] {
+        for length in [40 << 20, (40 << 20) / RECORD_SIZE * RECORD_SIZE] {
             let mut lists: [&[u8]; 3] = [&[], &[], &[]];
             lists[list] = &long[..length];
             for room in [0, 100, FILE_SIZE] {

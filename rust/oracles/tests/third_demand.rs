@@ -88,19 +88,18 @@ fn signs_after_a_rise_and_a_fall() {
     }
 }
 
-/// The finest increment is the smallest rise: at every price of every product that is on it, in files of as many marks as fit.
+/// One tick is the smallest rise: at every price of every product that is on the tick, in files of as many marks as fit.
 #[test]
-fn signs_after_the_smallest_rise() {
+fn signs_after_one_tick() {
     let mut random = Random::new(65_539);
     for product in &PRODUCTS {
-        let prices: Vec<u32> = (0..PRICE_LIMIT).step_by(product.finest as usize).collect();
+        let prices: Vec<u32> = (0..PRICE_LIMIT).step_by(product.tick as usize).collect();
         for chunk in prices.chunks(MAX_MARKS) {
             let mut day = day_of(&mut random, chunk.len(), 0, 0);
             let contracts = product.months.iter().flat_map(|&month| (0..=YEAR_LIMIT).map(move |year| (month, year)));
             for ((mark, &price), (month, year)) in day.marks.iter_mut().zip(chunk).zip(contracts) {
                 (mark.code, mark.month, mark.year) = (product.code, month, year);
-                (mark.previous, mark.today) = (price, price + product.finest);
-                mark.increment = product.finest as u16;
+                (mark.previous, mark.today) = (price, price + product.tick);
             }
             let position = |mark| citronreef::records::Position { account: mark, mark, lots: 1 };
             day.positions = (0..chunk.len() as u32).map(position).collect();

@@ -3,8 +3,7 @@
 
 use super::settlement::{Row, Settlement};
 use crate::money::plain_dollars;
-use crate::prices::price_text;
-use crate::quoted::{code_text, contract_text};
+use crate::quoted::{code_text, contract_text, price_text};
 use citronreef::Refusal;
 
 const HEADING: &str = "account,contract,code,month,year,lots,previous,final,correction,change,amount,currency\n";

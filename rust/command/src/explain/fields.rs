@@ -1,9 +1,8 @@
 //! The fields of a record, and why a check refuses one of them. A reason says of the record what the check's words say of all.
 
 use crate::money::whole_text;
-use crate::prices::price_text;
 use crate::products::{product, YEAR_LIMIT};
-use crate::quoted::{bytes_text, code_spelled, code_text, contract_text};
+use crate::quoted::{code_spelled, code_text, contract_text, price_text};
 use citronreef::records::{Correction, Mark, Position, MAX_LOTS, PRICE_LIMIT};
 
 /// A field with what it holds, and what is wrong with it.
@@ -21,21 +20,21 @@ const SAME: &str = "the same in both";
 const DIFFERS: &str = "differs";
 const ABOVE_LIMIT: &str = "above 100.0000";
 
-/// The fields of a mark that one of the checks 4 to 7 and 18 refuses, or of one of the two that check 8 does.
+/// The fields of a mark that one of the checks 4 to 7 refuses, or of one of the two that check 8 does.
 pub fn mark_fields(mark: &Mark, check: u32) -> Vec<Field> {
     let same = (check == 8).then(|| SAME.to_string());
     let code = (check == 4).then(|| "not in the product table".to_string());
-    let above = |price| (check == 6 && price > PRICE_LIMIT).then(|| ABOVE_LIMIT.to_string());
-    let (previous, today) = if check == 7 { (off_finest(mark), off_day(mark)) } else { (None, None) };
-    let padding = (check == 18 && mark.padding != [0, 0]).then(|| "not zero".to_string());
+    let price = |units| match check {
+        6 => (units > PRICE_LIMIT).then(|| ABOVE_LIMIT.to_string()),
+        7 => off_tick(mark, units),
+        _ => None,
+    };
     vec![
         field("code", code_spelled(mark.code), code.or_else(|| same.clone())),
         field("month", mark.month.to_string(), no_month(mark, check).or_else(|| same.clone())),
         field("year", mark.year.to_string(), no_year(mark, check).or(same)),
-        field("previous price", price_text(mark.previous), above(mark.previous).or(previous)),
-        field("today's price", price_text(mark.today), above(mark.today).or(today)),
-        field("increment", price_text(mark.increment.into()), no_increment(mark, check)),
-        field("last two bytes", bytes_text(mark.padding), padding),
+        field("previous price", price_text(mark.previous), price(mark.previous)),
+        field("today's price", price_text(mark.today), price(mark.today)),
     ]
 }
 
@@ -49,29 +48,9 @@ fn no_year(mark: &Mark, check: u32) -> Option<String> {
     (check == 5 && mark.year > YEAR_LIMIT).then(|| format!("above {YEAR_LIMIT}"))
 }
 
-fn no_increment(mark: &Mark, check: u32) -> Option<String> {
-    let product = product(mark.code).filter(|product| check == 18 && !product.allows(mark.increment))?;
-    let (tick, finest) = (price_text(product.tick), price_text(product.finest));
-    let allowed = if tick == finest { tick } else { format!("{tick} or {finest}") };
-    Some(format!("{} is quoted in {allowed}", code_text(mark.code)))
-}
-
-/// Why check 7 refuses a mark's previous price, which it judges by the product.
-fn off_finest(mark: &Mark) -> Option<String> {
-    let product = product(mark.code).filter(|product| mark.previous % product.finest != 0)?;
-    Some(format!("no multiple of {}, the finest increment of {}", price_text(product.finest), code_text(mark.code)))
-}
-
-/// Why check 7 refuses today's price, which it judges by the mark.
-fn off_day(mark: &Mark) -> Option<String> {
-    off_increment(mark, mark.today, "the day's increment")
-}
-
-/// That a price is no multiple of a mark's increment: 0 divides 0 alone.
-fn off_increment(mark: &Mark, price: u32, called: &str) -> Option<String> {
-    let increment = u32::from(mark.increment);
-    let rest = price.checked_rem(increment).unwrap_or(price);
-    (rest != 0).then(|| format!("no multiple of {}, {called}", price_text(increment)))
+fn off_tick(mark: &Mark, price: u32) -> Option<String> {
+    let product = product(mark.code).filter(|product| price % product.tick != 0)?;
+    Some(format!("no multiple of {}, the tick of {}", price_text(product.tick), code_text(mark.code)))
 }
 
 /// The fields of a correction that check 9 or 10 refuses. Of two that clash, `other` is the one beside this one.
@@ -90,7 +69,7 @@ fn bad_price(correction: &Correction, marks: &[Mark], check: u32) -> Option<Stri
     let mark = marks.get(correction.mark as usize).filter(|_| check == 10)?;
     match correction.price > PRICE_LIMIT {
         true => Some(ABOVE_LIMIT.to_string()),
-        false => off_increment(mark, correction.price, "the increment of its mark"),
+        false => off_tick(mark, correction.price),
     }
 }
 

@@ -4,7 +4,7 @@ use crate::day::header_of;
 use crate::money::whole_text;
 use crate::sheet::INPUT_LIMIT;
 use crate::text::Lines;
-use citronreef::records::{header, HEADER_SIZE, MAX_CORRECTIONS, MAX_MARKS, MAX_POSITIONS, POSITION_SIZE};
+use citronreef::records::{header, HEADER_SIZE, MAX_CORRECTIONS, MAX_MARKS, MAX_POSITIONS, RECORD_SIZE};
 
 const LIMITS: [usize; 3] = [MAX_MARKS, MAX_CORRECTIONS, MAX_POSITIONS];
 const COUNTS: [&str; 3] = ["marks", "corrections", "positions"];
@@ -68,6 +68,6 @@ fn layout_text(file: &[u8]) -> String {
         text += &header_line(COUNTS[section], 2 * section, count, "", "");
         text += &header_line(OFFSETS[section], 2 * section + 1, offset, &number(ought), word(offset != ought));
     }
-    let ought = layout[5] + POSITION_SIZE * positions;
+    let ought = layout[5] + RECORD_SIZE * positions;
     text + &line("length in bytes", "", &length_text(file), &number(ought), word(file.len() != ought))
 }

@@ -6,7 +6,7 @@ use crate::day::{day_of, offset_of, Section};
 use crate::findings::findings;
 use crate::quoted::contract_text;
 use crate::text::Lines;
-use citronreef::records::{Correction, Day};
+use citronreef::records::{Correction, Day, RECORD_SIZE};
 use citronreef::{words, Refusal};
 
 const OTHERS: &str = "Other conditions that hold, each with its first record. One may vanish when the first is mended.";
@@ -72,7 +72,7 @@ impl Refused<'_> {
             Section::Corrections => corrections.get(index).map(|record| correction_fields(record, marks, check, other)),
             Section::Positions => positions.get(index).map(|position| position_fields(position, marks, check)),
         };
-        let place = self.place(section, index, &format!("{} bytes from ", section.record_size()));
+        let place = self.place(section, index, &format!("{RECORD_SIZE} bytes from "));
         let head = format!("  {}, {place}\n", self.counted(section, index));
         head + &fields_text(&fields.unwrap_or_default())
     }

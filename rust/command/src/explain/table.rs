@@ -2,9 +2,8 @@
 
 use super::settlement::{Resent, Row, Settlement};
 use crate::money::{dollars_text, whole_text};
-use crate::prices::price_text;
 use crate::products::Currency;
-use crate::quoted::contract_text;
+use crate::quoted::{contract_text, price_text};
 use std::iter;
 
 const COLUMNS: usize = 9;

@@ -3,9 +3,7 @@
 use super::lines::{lines, Line};
 use super::words::*;
 use super::{Lines, Mistake};
-use crate::prices::{increment_of, price_of};
-use crate::products::product;
-use crate::quoted::{bytes_of, code_of, told};
+use crate::quoted::{code_of, price_of, told};
 use citronreef::records::{Correction, Mark, Position};
 
 /// The field in which a correction or a position names its mark.
@@ -58,19 +56,14 @@ impl Draft {
         }
     }
 
-    /// An increment that is left out is the product's tick, or 0 where the code is in no table.
     fn add_mark(&mut self, line: &Line) -> Result<(), Mistake> {
-        expect(line, "mark CODE MONTH YEAR PREVIOUS TODAY [INCREMENT [BYTES]]")?;
-        let code = line.field(2, code_of)?;
-        let tick = product(code).map_or(0, |product| product.tick as u16);
+        expect(line, "mark CODE MONTH YEAR PREVIOUS TODAY")?;
         self.marks.push(Mark {
-            code,
+            code: line.field(2, code_of)?,
             month: line.field(3, month_of)?,
             year: line.field(4, year_of)?,
             previous: line.field(5, price_of)?,
             today: line.field(6, price_of)?,
-            increment: line.optional(7, increment_of)?.unwrap_or(tick),
-            padding: line.optional(8, bytes_of)?.unwrap_or_default(),
         });
         self.lines.marks.push(line.place);
         Ok(())
@@ -117,14 +110,12 @@ impl Draft {
     }
 }
 
-/// Asks that a line has as many fields as the form of its kind. Those between brackets may be left out.
+/// Asks that a line has as many fields as the form of its kind.
 fn expect(line: &Line, form: &str) -> Result<(), Mistake> {
-    let (least, most) = (form.split(" [").next().unwrap_or(form).split(' ').count(), form.split(' ').count());
-    let here = line.fields.len();
-    if (least..=most).contains(&here) {
+    let (wanted, here) = (form.split(' ').count(), line.fields.len());
+    if wanted == here {
         return Ok(());
     }
-    let wanted = if least == most { most.to_string() } else { format!("{least} to {most}") };
     Err(line.mistake(format!("a {} has {wanted} fields, {form}, and here are {here}", line.kind())))
 }
 

@@ -1,8 +1,7 @@
 //! The sections of any bytes, as far as they go, and what is wrong with their layout.
 
 use citronreef::records::{
-    header, u32_at, Correction, Mark, Position, CORRECTION_SIZE, HEADER_SIZE, MARK_SIZE, MAX_CORRECTIONS, MAX_MARKS,
-    MAX_POSITIONS, POSITION_SIZE,
+    header, u32_at, Correction, Mark, Position, HEADER_SIZE, MAX_CORRECTIONS, MAX_MARKS, MAX_POSITIONS, RECORD_SIZE,
 };
 
 const SECTIONS: [(&str, usize); 3] = [("mark", MAX_MARKS), ("correction", MAX_CORRECTIONS), ("position", MAX_POSITIONS)];
@@ -27,9 +26,9 @@ impl Parts<'_> {
         }
         let header = [0, 4, 8, 12, 16, 20].map(|at| u32_at(file, at) as usize);
         let [marks, _, corrections, _, positions, _] = header;
-        let (marks, rest) = section(&file[HEADER_SIZE..], marks, MARK_SIZE, Mark::read);
-        let (corrections, rest) = section(rest, corrections, CORRECTION_SIZE, Correction::read);
-        let (positions, rest) = section(rest, positions, POSITION_SIZE, Position::read);
+        let (marks, rest) = section(&file[HEADER_SIZE..], marks, Mark::read);
+        let (corrections, rest) = section(rest, corrections, Correction::read);
+        let (positions, rest) = section(rest, positions, Position::read);
         Some(Parts { length: file.len(), header, marks, corrections, positions, rest })
     }
 
@@ -62,7 +61,7 @@ impl Parts<'_> {
                 faults.push(format!("the {section}s' offset is {stands}, and {wanted} by the counts"));
             }
         }
-        let wanted = usual[5] + POSITION_SIZE * positions;
+        let wanted = usual[5] + RECORD_SIZE * positions;
         if self.length != wanted {
             faults.push(format!("the file has {}, and {wanted} by the counts", counted(self.length, "byte")));
         }
@@ -76,8 +75,8 @@ pub fn counted(count: usize, what: &str) -> String {
 }
 
 /// The records of a section that stand whole at the start of some bytes, and the bytes after them.
-fn section<T>(bytes: &[u8], count: usize, size: usize, read: fn(&[u8]) -> T) -> (Vec<T>, &[u8]) {
-    let whole = count.min(bytes.len() / size);
-    let (records, rest) = bytes.split_at(size * whole);
-    (records.chunks_exact(size).map(read).collect(), rest)
+fn section<T>(bytes: &[u8], count: usize, read: fn(&[u8]) -> T) -> (Vec<T>, &[u8]) {
+    let whole = count.min(bytes.len() / RECORD_SIZE);
+    let (records, rest) = bytes.split_at(RECORD_SIZE * whole);
+    (records.chunks_exact(RECORD_SIZE).map(read).collect(), rest)
 }

@@ -51,9 +51,4 @@ impl Line<'_> {
     pub fn field<T>(&self, number: usize, read: impl Fn(&str) -> Result<T, String>) -> Result<T, Mistake> {
         read(self.fields[number - 1]).map_err(|says| Mistake::at(self.place, number, says))
     }
-
-    /// The same of a field that may be left out.
-    pub fn optional<T>(&self, number: usize, read: impl Fn(&str) -> Result<T, String>) -> Result<Option<T>, Mistake> {
-        (number <= self.fields.len()).then(|| self.field(number, read)).transpose()
-    }
 }

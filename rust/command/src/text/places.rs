@@ -1,6 +1,6 @@
 //! Where the bytes of a file stand in the text that it was made of.
 
-use citronreef::records::{CORRECTION_SIZE, HEADER_SIZE, MARK_SIZE, POSITION_SIZE};
+use citronreef::records::{HEADER_SIZE, RECORD_SIZE};
 
 /// The line of each record in its text, from 1, in the order of the file, and the lines of the header and of further bytes.
 #[derive(Clone, Debug, Default, PartialEq, Eq)]
@@ -16,18 +16,17 @@ pub struct Lines {
 }
 
 impl Lines {
-    /// The line that holds this byte of the file, whatever record the header makes of it. None for a byte of the header, and for one
-    /// that the text does not have.
+    /// The line that holds the record at this byte of the file, whatever kind of record the header makes of it. None for bytes
+    /// that are of no one line.
     pub fn at(&self, byte: usize) -> Option<usize> {
-        let mut after = byte.checked_sub(if self.headless { 0 } else { HEADER_SIZE })?;
-        let sections = [(&self.marks, MARK_SIZE), (&self.corrections, CORRECTION_SIZE), (&self.positions, POSITION_SIZE)];
-        for (lines, size) in sections {
-            match lines.get(after / size) {
-                Some(&line) => return Some(line),
-                None => after -= size * lines.len(),
-            }
+        let after = byte.checked_sub(if self.headless { 0 } else { HEADER_SIZE })?;
+        let records = [&self.marks, &self.corrections, &self.positions];
+        let count: usize = records.iter().map(|lines| lines.len()).sum();
+        if let Some(further) = after.checked_sub(RECORD_SIZE * count) {
+            return self.further(further);
         }
-        self.further(after)
+        let mut lines = records.into_iter().flatten().copied();
+        (after % RECORD_SIZE == 0).then(|| lines.nth(after / RECORD_SIZE)).flatten()
     }
 
     /// The line of one of the further bytes.
@@ -54,17 +53,14 @@ mod tests {
             (0, None),
             (23, None),
             (24, Some(3)),
-            (39, Some(3)),
-            (40, Some(2)),
-            (52, Some(2)),
-            (56, Some(5)),
-            (67, Some(5)),
-            (68, Some(4)),
-            (79, Some(4)),
-            (80, Some(6)),
-            (81, Some(6)),
-            (82, Some(9)),
-            (92, Some(9)),
+            (30, None),
+            (36, Some(2)),
+            (48, Some(5)),
+            (60, Some(4)),
+            (72, Some(6)),
+            (73, Some(6)),
+            (74, Some(9)),
+            (84, Some(9)),
         ] {
             assert_eq!(lines.at(byte), line, "byte {byte}");
             let headless = Lines { headless: true, ..lines.clone() };

@@ -2,10 +2,8 @@
 
 use super::layout::{counted, Parts};
 use super::names::Names;
-use crate::prices::price_text;
-use crate::products::product;
-use crate::quoted::{bytes_text, code_text};
-use citronreef::records::{Mark, HEADER_SIZE};
+use crate::quoted::{code_text, price_text};
+use citronreef::records::HEADER_SIZE;
 use std::fmt::Write;
 
 const BYTES_A_LINE: usize = 12;
@@ -39,22 +37,13 @@ fn shown_parts(file: &[u8], parts: &Parts) -> String {
     head + &aligned(&[marks, corrections, positions, rest])
 }
 
-/// A mark's line. Its increment is left out where it is the product's tick, and its last two bytes where they are zero.
-fn mark_line(mark: &Mark) -> String {
-    let (code, previous, today) = (code_text(mark.code), price_text(mark.previous), price_text(mark.today));
-    let line = format!("mark {code} {} {} {previous} {today}", mark.month, mark.year);
-    let is_tick = product(mark.code).map_or(false, |product| product.tick == mark.increment.into());
-    match (is_tick, mark.padding == [0, 0]) {
-        (true, true) => line,
-        (false, true) => format!("{line} {}", price_text(mark.increment.into())),
-        (_, false) => format!("{line} {} {}", price_text(mark.increment.into()), bytes_text(mark.padding)),
-    }
-}
-
 /// A line for each record, in three sections.
 fn record_lines(parts: &Parts) -> [Vec<Said>; 3] {
     let names = Names::of(&parts.marks);
-    let marks = parts.marks.iter().map(mark_line);
+    let marks = parts.marks.iter().map(|mark| {
+        let (code, previous, today) = (code_text(mark.code), price_text(mark.previous), price_text(mark.today));
+        format!("mark {code} {} {} {previous} {today}", mark.month, mark.year)
+    });
     let corrections = parts.corrections.iter().map(|correction| {
         let (mark, price) = (names.name_of(correction.mark), price_text(correction.price));
         format!("correction {} {mark} {price}", correction.number)

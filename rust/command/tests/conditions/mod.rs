@@ -2,30 +2,15 @@
 
 use citronreef::records::*;
 use oracles::plain::{same_contract, same_holding};
-use oracles::products::{product, PRICE_LIMIT, YEAR_LIMIT};
+use oracles::products::{product, Product, PRICE_LIMIT, YEAR_LIMIT};
 
 /// The whole records that the file has of a section.
-fn records<T>(file: &[u8], start: usize, count: usize, size: usize, read: fn(&[u8]) -> T) -> Vec<T> {
-    file.get(start..).unwrap_or_default().chunks_exact(size).take(count).map(read).collect()
+fn records(file: &[u8], start: usize, count: usize) -> Vec<&[u8]> {
+    file.get(start..).unwrap_or_default().chunks_exact(RECORD_SIZE).take(count).collect()
 }
 
-/// Whether a price is no multiple of a mark's increment, allowed or not: 0 divides 0 alone.
-fn off_increment(mark: &Mark, price: u32) -> bool {
-    match mark.increment {
-        0 => price != 0,
-        increment => price % u32::from(increment) != 0,
-    }
-}
-
-/// Whether a mark's increment is neither the tick nor the finest increment of its product, or there is no product.
-fn bad_increment(mark: &Mark) -> bool {
-    let increment = u32::from(mark.increment);
-    product(mark.code).map_or(true, |product| increment != product.tick && increment != product.finest)
-}
-
-/// Whether a mark's previous price is off its product's finest increment, if it has a product, or today's price off its own.
-fn bad_prices(mark: &Mark) -> bool {
-    product(mark.code).map_or(false, |product| mark.previous % product.finest != 0) || off_increment(mark, mark.today)
+fn off_tick(product: Option<&Product>, price: u32) -> bool {
+    product.map_or(false, |product| price % product.tick != 0)
 }
 
 fn bad_date(mark: &Mark) -> bool {
@@ -48,23 +33,23 @@ pub fn first(file: &[u8], number: u32) -> Option<usize> {
     let layout = header(m, c, n);
     match number {
         2 => return above.then_some(0),
-        3 => return (numbers != layout || file.len() != layout[5] + POSITION_SIZE * n).then_some(0),
+        3 => return (numbers != layout || file.len() != layout[5] + RECORD_SIZE * n).then_some(0),
         _ if above => return None,
         _ => {}
     }
-    let marks = records(file, layout[1], m, MARK_SIZE, Mark::read);
-    let corrections = records(file, layout[3], c, CORRECTION_SIZE, Correction::read);
-    let positions = records(file, layout[5], n, POSITION_SIZE, Position::read);
-    let off_named = |index: u32, price| marks.get(index as usize).map_or(false, |mark| off_increment(mark, price));
+    let marks: Vec<Mark> = records(file, layout[1], m).into_iter().map(Mark::read).collect();
+    let corrections: Vec<Correction> = records(file, layout[3], c).into_iter().map(Correction::read).collect();
+    let positions: Vec<Position> = records(file, layout[5], n).into_iter().map(Position::read).collect();
+    let tick_of = |index: u32| marks.get(index as usize).and_then(|mark| product(mark.code));
+    let prices = |mark: &Mark| [mark.previous, mark.today];
     match number {
         4 => marks.iter().position(|mark| product(mark.code).is_none()),
         5 => marks.iter().position(bad_date),
-        18 => marks.iter().position(|mark| bad_increment(mark) || mark.padding != [0, 0]),
-        6 => marks.iter().position(|mark| mark.previous > PRICE_LIMIT || mark.today > PRICE_LIMIT),
-        7 => marks.iter().position(bad_prices),
+        6 => marks.iter().position(|mark| prices(mark).iter().any(|&price| price > PRICE_LIMIT)),
+        7 => marks.iter().position(|mark| prices(mark).iter().any(|&price| off_tick(product(mark.code), price))),
         8 => pair(&marks, same_contract),
         9 => corrections.iter().position(|correction| correction.mark as usize >= marks.len()),
-        10 => corrections.iter().position(|c| c.price > PRICE_LIMIT || off_named(c.mark, c.price)),
+        10 => corrections.iter().position(|c| c.price > PRICE_LIMIT || off_tick(tick_of(c.mark), c.price)),
         11 => pair(&corrections, |earlier, later| earlier.number == later.number && earlier != later),
         12 => positions.iter().position(|position| position.mark as usize >= marks.len()),
         13 => positions.iter().position(|position| position.lots == 0 || position.lots.unsigned_abs() > MAX_LOTS as u32),

@@ -3,14 +3,11 @@
 
 use citronreef::records::{Correction, Day, Mark, Position};
 use oracles::days::{damage_bytes, damage_record, day};
-use oracles::products::product;
 use oracles::random::Random;
 use std::collections::HashSet;
 
-/// A mark that is quoted in its product's tick.
 fn mark(code: &[u8; 2], month: u8, previous: u32, today: u32) -> Mark {
-    let increment = product(*code).expect("a listed code").tick as u16;
-    Mark { code: *code, month, year: 27, previous, today, increment, padding: [0; 2] }
+    Mark { code: *code, month, year: 27, previous, today }
 }
 
 /// The day of samples/day.txt.

@@ -1,9 +1,8 @@
 //! Makes a file in lent bytes with guards around them, by the library and by the independent builds.
 
 use crate::lent::settled_into;
-use citronreef::records::{u32_at, HEADER_SIZE, MAX_POSITIONS, POSITION_SIZE};
+use citronreef::records::{u32_at, HEADER_SIZE, MAX_POSITIONS, RECORD_SIZE};
 use citronreef::{settle, Refusal, Settled};
-use oracles::plain::SIZES;
 use oracles::{hashed, plain, quick};
 
 /// A maker of a file from marks, corrections and positions.
@@ -38,9 +37,9 @@ fn slices(lists: &Lists) -> [&[u8]; 3] {
 
 /// The three lists of a file, where its header says that they stand.
 pub fn sections(file: &[u8]) -> [&[u8]; 3] {
-    std::array::from_fn(|list| {
-        let (count, start) = (u32_at(file, 8 * list) as usize, u32_at(file, 8 * list + 4) as usize);
-        &file[start..start + SIZES[list] * count]
+    [0, 8, 16].map(|at| {
+        let (count, start) = (u32_at(file, at) as usize, u32_at(file, at + 4) as usize);
+        &file[start..start + RECORD_SIZE * count]
     })
 }
 
@@ -65,7 +64,7 @@ pub fn agreed(lists: &Lists, room: usize) -> Result<Vec<u8>, Refusal> {
         assert!(library == made_into(build, slices(lists), room), "against {name}, {room} bytes, lists {lists:?}");
     }
     if let Ok(file) = &library {
-        assert_eq!(settled(file).map(|(answer, _)| answer.positions), Ok(lists[2].len() / POSITION_SIZE));
+        assert_eq!(settled(file).map(|(answer, _)| answer.positions), Ok(lists[2].len() / RECORD_SIZE));
         assert_eq!(sections(file), slices(lists));
         assert_made_of_its_lists(file);
     }

@@ -11,12 +11,12 @@ use Rattle.checks.proofs.corrections.decide_corrections.Tie as tie
 first-clash-requires : tie.Need-first-clash-requires
 first-clash-requires c κs =
     let s = c.before.before.before.before.before.before.before in
-    last_numbers s.args.corrections.now s.requires (replicate file_limits.corrections 0) refl c.before.before.earlier.ensures
+    last_numbers s.args.corrections.now s.requires.1 (replicate file_limits.corrections 0) refl c.before.before.earlier.ensures
 
 resent-count-requires : tie.Need-resent-count-requires
 resent-count-requires c κs =
     let s = c.before.before.before.before.before.before.before.before.before in
-    last_numbers s.args.corrections.now s.requires (replicate file_limits.corrections 0) refl c.before.before.before.before.earlier.ensures
+    last_numbers s.args.corrections.now s.requires.1 (replicate file_limits.corrections 0) refl c.before.before.before.before.earlier.ensures
 
 returns : tie.Need-returns
 returns c =

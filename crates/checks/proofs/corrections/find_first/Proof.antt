@@ -8,13 +8,16 @@ use Rattle.checks.proofs.corrections.find_first.Statement.{statement}
 use Rattle.checks.proofs.corrections.find_first.Tie as tie
 
 abbrev invariant-loop : tie.invariant-loop
-invariant-loop marks corrections n f₀ i₀ f i = (i ≤ n) × (f ≡ correction_findings (marks_in marks) (corrections_in corrections) i)
+invariant-loop marks ticks corrections n f₀ i₀ f i = (i ≤ n) × (f ≡ correction_findings (marks_in marks) (corrections_in corrections) i)
 
 abbrev decreases-loop : tie.decreases-loop
-decreases-loop marks corrections n f₀ i₀ f i = n - i
+decreases-loop marks ticks corrections n f₀ i₀ f i = n - i
 
 loop-holds : tie.Need-loop-init invariant-loop decreases-loop
-loop-holds c = let a = c.before.before.before.args in (search rules, no_corrections (marks_in a.marks.now) (corrections_in a.corrections.now))
+loop-holds c = (search rules, no_corrections _ _)
+
+faults-requires : tie.Need-faults-requires invariant-loop decreases-loop
+faults-requires c κs = c.before.before.before.before.before.before.requires
 
 add-i : tie.Need-overflow-add-i invariant-loop decreases-loop
 add-i c = omega arith
@@ -48,7 +51,7 @@ find-first-spec =
     (λ c κs. search rules)
     loop-holds
     (λ c κs. search rules)
-    (λ c κs. search rules)
+    faults-requires
     (λ c κs. search rules)
     add-i
     loop-less

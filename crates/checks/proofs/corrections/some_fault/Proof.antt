@@ -9,13 +9,16 @@ use Rattle.checks.proofs.corrections.some_fault.Statement.{statement}
 use Rattle.checks.proofs.corrections.some_fault.Tie as tie
 
 abbrev invariant-loop : tie.invariant-loop
-invariant-loop marks corrections n bad₀ i₀ bad i = (i ≤ n) × (bad ≡ some (λ k. any_correction_fault (correction_faults (marks_in marks) (correction_at (corrections_in corrections) k))) i)
+invariant-loop marks ticks corrections n bad₀ i₀ bad i = (i ≤ n) × (bad ≡ some (λ k. any_correction_fault (correction_faults (marks_in marks) (correction_at (corrections_in corrections) k))) i)
 
 abbrev decreases-loop : tie.decreases-loop
-decreases-loop marks corrections n bad₀ i₀ bad i = n - i
+decreases-loop marks ticks corrections n bad₀ i₀ bad i = n - i
 
 loop-holds : tie.Need-loop-init invariant-loop decreases-loop
 loop-holds c = (search rules, some_start _)
+
+faults-requires : tie.Need-faults-requires invariant-loop decreases-loop
+faults-requires c κs = c.before.before.before.before.before.before.requires
 
 add-i : tie.Need-overflow-add-i invariant-loop decreases-loop
 add-i c = omega arith
@@ -49,7 +52,7 @@ some-fault-spec =
     (λ c κs. search rules)
     loop-holds
     (λ c κs. search rules)
-    (λ c κs. search rules)
+    faults-requires
     (λ c κs. search rules)
     add-i
     loop-less

@@ -13,13 +13,13 @@ returns c =
     one_decides (too_many_marks file_limits ms) (mark_checks ms) (lt-ltb file_limits.marks (length ms) (omega (arith, c.if1.true, c.before.mark-count.ensures)))
 
 decide-marks-requires : tie.Need-decide-marks-requires
-decide-marks-requires c κs = omega (arith, c.before.mark-count.ensures, c.if1.false)
+decide-marks-requires c κs = (omega (arith, c.before.before.mark-count.ensures, c.before.if1.false), search rules)
 
 returns-2 : tie.Need-returns-2
 returns-2 c =
-    let ms = marks_in c.before.before.before.before.args.marks.now in
-    one_passes (too_many_marks file_limits ms) (mark_checks ms) (le-ltb file_limits.marks (length ms) (omega (arith, c.before.if1.false, c.before.before.mark-count.ensures)))
-    (c.decide-marks.ensures ∙ decision_all (mark_checks ms))
+    let ms = marks_in c.before.before.before.before.before.args.marks.now in
+    one_passes (too_many_marks file_limits ms) (mark_checks ms) (le-ltb file_limits.marks (length ms) (omega (arith, c.before.before.if1.false, c.before.before.before.mark-count.ensures)))
+    (c.decide-marks.ensures.0 ∙ decision_all (mark_checks ms))
 
 pub check-marks-spec : {M : Type 1} → statement M
 check-marks-spec = tie.close

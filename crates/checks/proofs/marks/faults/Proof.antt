@@ -1,4 +1,4 @@
--- By what the lookup of the mark's code found; without a product no increment is allowed, and today's price alone can be off its own.
+-- By what the lookup of the mark's code found; without a product the tick is 1, and no price is off it.
 use Rattle.std.proofs.Common.{◌∙◌, rules}
 use Rattle.products.proofs.ByCode.{by_lookup}
 use Rattle.checks.proofs.Faults.{faults_in, faults_found}
@@ -7,20 +7,15 @@ use Rattle.checks.proofs.marks.faults.Tie as tie
 
 returns : tie.Need-returns
 returns c =
-    let k = c.before.before.before in
-    let s = k.before.before.before in
-    let t = s.before in
-    let m = t.before.before.before.args.m in
-    by_lookup (faults_in m) _ s.lookup.ensures k.before.product.given.1
-    (rw (c.before.before.bad-date.ensures, c.before.bad-increment.ensures, t.before.before.is-high.ensures, c.off-previous.ensures, t.off-increment.ensures))
-    ∙ faults_found m
+    let s = c.before.before.before.before in
+    let m = s.before.args.m in
+    by_lookup (faults_in m) _ s.lookup.ensures c.before.before.product.given.1 c.faults-by.ensures ∙ faults_found m
 
 returns-2 : tie.Need-returns-2
 returns-2 c =
-    let s = c.before.before in
-    let t = s.before in
-    let m = t.before.before.before.args.m in
-    by_lookup (faults_in m) _ s.lookup.ensures c.enum_told.given.1 (rw (t.before.before.is-high.ensures, t.off-increment.ensures)) ∙ faults_found m
+    let s = c.before.before.before in
+    let m = s.before.args.m in
+    by_lookup (faults_in m) _ s.lookup.ensures c.before.enum_told.given.1 (rw c.is-high.ensures) ∙ faults_found m
 
 pub faults-spec : {M : Type 1} → statement M
 faults-spec =
@@ -29,11 +24,7 @@ faults-spec =
     (λ c κs. search rules)
     (λ c. search rules)
     (λ c κs. search rules)
-    (λ c κs. search rules)
     (λ c. search rules)
     (λ c κs. search rules)
-    (λ c κs. search rules)
-    (λ c κs. search rules)
-    (λ c. search rules)
     returns
     returns-2)

@@ -1,5 +1,4 @@
--- By whether the section has a correction i: it is read from its bytes, one record from i records on, and past the end all
--- fields are 0, as of no bytes.
+-- By whether the section has a correction i: it is read from the 12 bytes at 12 * i, and past the end all fields are 0, as of no bytes.
 use mathlib.Core.Path.{sym, ◌∙◌}
 use native.Mathlib.Nat.{add-sub_cancel_left}
 use Rattle.numbers.specs.Bytes.{u32_at}

@@ -1,8 +1,7 @@
--- By whether the section has a mark i: it is read from its bytes, one record from i records on, and past the end all fields are 0, as of
--- no bytes.
+-- By whether the section has a mark i: it is read from the 12 bytes at 12 * i, and past the end all fields are 0, as of no bytes.
 use mathlib.Core.Path.{sym, ◌∙◌}
 use native.Mathlib.Nat.{add-sub_cancel_left}
-use Rattle.numbers.specs.Bytes.{u16_at, u32_at}
+use Rattle.numbers.specs.Bytes.{u32_at}
 use Rattle.dayfile.specs.Records.{mark_size, mark_of, mark_at}
 use Rattle.numbers.proofs.Sections.{record_here, record_past}
 use borrow.Author.Rules.{rules}
@@ -15,7 +14,7 @@ returns c =
     c.mark_of.ensures ∙ rw add-sub_cancel_left (sym (record_here mark_of mark_size _ _ c.before.before.if1.true))
 
 returns-2 : tie.Need-returns-2
-unfolding mark_at u16_at u32_at
+unfolding mark_at u32_at
 returns-2 c =
     sym (record_past mark_of mark_size _ _ c.if1.false)
 

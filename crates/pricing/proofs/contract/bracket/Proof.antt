@@ -1,4 +1,4 @@
--- By the lookup: a product that is found is a line of the table, so its terms are modest, as `bracket_by` asks.
+-- By the lookup: a product that is found is a line of the table, so its terms are modest and its tick is positive, as `bracket_by` asks.
 use Rattle.pricing.specs.Calls.{bracket_of}
 use Rattle.pricing.proofs.TableLines.{modest_line}
 use borrow.Author.Rules.{rules}
@@ -6,7 +6,7 @@ use Rattle.pricing.proofs.contract.bracket.Statement.{statement}
 use Rattle.pricing.proofs.contract.bracket.Tie as tie
 
 bracket-by-requires : tie.Need-bracket-by-requires
-bracket-by-requires c κs = (modest_line _ c.before.before.before.lookup.ensures c.before.product.given.1).terms
+bracket-by-requires c κs = let s = modest_line _ c.before.before.before.lookup.ensures c.before.product.given.1 in (s.terms, s.tick)
 
 returns : tie.Need-returns
 unfolding bracket_of

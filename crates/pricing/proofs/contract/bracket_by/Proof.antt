@@ -6,7 +6,7 @@ use Rattle.pricing.proofs.contract.bracket_by.Tie as tie
 
 bracket-at-requires : tie.Need-bracket-at-requires
 bracket-at-requires c κs =
-    let m = rw c.before.before.before.before.t.given.1 at c.before.before.before.before.before.before.requires in
+    let m = rw c.before.before.before.before.t.given.1 at c.before.before.before.before.before.before.requires.0 in
     (m.1, m.2, m.3, (passed _ _ c.before.before.check-price.ensures c.enum_told.given.1).0)
 
 returns : tie.Need-returns

@@ -10,7 +10,7 @@ use Rattle.pricing.specs.Value.{value_by}
 use Rattle.pricing.specs.Calls.{Answer, given, refused, check, tick_value_of}
 use Rattle.products.specs.declared.table.Terms.{Terms}
 use Rattle.pricing.proofs.Rise.{value_by_rises}
-use Rattle.pricing.proofs.Checking.{from_table, by_checked}
+use Rattle.pricing.proofs.Checking.{allowed, by_checked}
 use borrow.Author.Rules.{rules}
 use Rattle.pricing.proofs.contract.tick_value.Statement.{statement}
 use Rattle.pricing.proofs.contract.tick_value.Tie as tie
@@ -27,7 +27,7 @@ within p t tick h = rw (le-leb (p + tick) price_limit h)
 
 add-next : tie.Need-overflow-add-next
 unfolding price_limit
-add-next c = omega (arith, from_table _ _ c.before.before.before.check.ensures c.before.terms.given.1)
+add-next c = omega (arith, allowed _ _ c.before.before.before.check.ensures c.before.terms.given.1)
 
 returns : tie.Need-returns
 unfolding tick_value_of price_limit
@@ -38,7 +38,7 @@ returns c =
 two-at-requires : tie.Need-two-at-requires
 unfolding price_limit
 two-at-requires c κs =
-    let h = from_table _ _ c.before.before.before.before.check.ensures c.before.before.terms.given.1 in
+    let h = allowed _ _ c.before.before.before.before.check.ensures c.before.before.terms.given.1 in
     (h.terms, h.within, c.if1.false)
 
 sub-t11 : tie.Need-overflow-sub-t11

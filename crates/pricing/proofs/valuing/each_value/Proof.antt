@@ -11,10 +11,10 @@ use Rattle.pricing.proofs.valuing.each_value.Statement.{statement}
 use Rattle.pricing.proofs.valuing.each_value.Tie as tie
 
 abbrev invariant-loop : tie.invariant-loop
-invariant-loop t finest p v₀ i₀ v i = Done 0 (λ j. if_passed (price_checked finest (get_or p j 0)) (value_by t (get_or p j 0))) lanes i v
+invariant-loop t tick p v₀ i₀ v i = Done 0 (λ j. if_passed (price_checked tick (get_or p j 0)) (value_by t (get_or p j 0))) lanes i v
 
 abbrev decreases-loop : tie.decreases-loop
-decreases-loop t finest p v₀ i₀ v i = lanes - i
+decreases-loop t tick p v₀ i₀ v i = lanes - i
 
 loop-holds : tie.Need-loop-init invariant-loop decreases-loop
 loop-holds c = none_done refl

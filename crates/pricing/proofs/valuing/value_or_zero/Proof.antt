@@ -16,7 +16,7 @@ unfolding value_of
 returns c =
     let q = c.before.before.product.given in
     let p = c.before.before.before.before.before.args.p in
-    rw (← c.before.before.before.before.lookup.ensures, q.1) (c.value-if-passed.ensures ∙ value_if_passed-is q.0.0.terms q.0.0.finest p)
+    rw (← c.before.before.before.before.lookup.ensures, q.1) (c.value-if-passed.ensures ∙ value_if_passed-is q.0.0.terms q.0.0.tick p)
 
 returns-2 : tie.Need-returns-2
 unfolding value_of

@@ -1,7 +1,7 @@
 //! The forms that a text may have, and the files that break the layout on purpose.
 
-use super::{bytes_of, case, made, mark, shown};
-use citronreef::records::{Day, Mark, MAX_MARKS};
+use super::{bytes_of, case, made, shown};
+use citronreef::records::{Day, MAX_MARKS};
 
 const CASE: &str =
     "mark IR 3 18 95.00 95.02\ncorrection 7 @0 95.01\ncorrection 7 @0 95.01\nposition 11 @0 10\nposition 12 @0 -4\n";
@@ -44,64 +44,24 @@ fn prices_as_quoted_and_in_units() {
     assert_eq!(bytes_of("correction 7 @0 4294967295u")[32..], [0xff; 4]);
 }
 
-/// The last four bytes of a mark: its increment, and the two bytes after it.
-#[test]
-fn increments_and_last_bytes() {
-    for (written, last) in [
-        ("IR 3 18 0.0 0.0", [100, 0, 0, 0]),
-        ("IR 3 18 0.0 0.0 0.01", [100, 0, 0, 0]),
-        ("IR 3 18 0.0 0.0 0.01 0700", [100, 0, 7, 0]),
-        ("IR 3 18 0.0 0.0 0u 00fF", [0, 0, 0, 255]),
-        ("XX 3 18 0.0 0.0", [50, 0, 0, 0]),
-        ("XX 3 18 0.0 0.0 0.0025", [25, 0, 0, 0]),
-        ("XX 3 18 0.0 0.0 25u", [25, 0, 0, 0]),
-        ("XX 3 18 0.0 0.0 6.5535 0000", [255, 255, 0, 0]),
-        ("XX 3 18 0.0 0.0 65535u", [255, 255, 0, 0]),
-        ("ZZ 3 18 0.0 0.0", [0, 0, 0, 0]),
-        ("0x4952 3 18 0.0 0.0", [100, 0, 0, 0]),
-    ] {
-        assert_eq!(bytes_of(&format!("mark {written}"))[36..], last, "{written}");
-    }
-}
-
-/// An increment is shown where it is not the product's tick or there is no product, and where bytes follow that are not zero.
-#[test]
-fn what_is_shown_of_increments() {
-    for (code, increment, padding, shows) in [
-        (b"IR", 100, [0, 0], "mark IR 3 18 95.00 95.02  # mark 0"),
-        (b"XX", 50, [0, 0], "mark XX 3 18 95.00 95.02  # mark 0"),
-        (b"XX", 25, [0, 0], "mark XX 3 18 95.00 95.02 0.0025  # mark 0"),
-        (b"XX", 0, [0, 0], "mark XX 3 18 95.00 95.02 0.00  # mark 0"),
-        (b"XX", 65_535, [0, 0], "mark XX 3 18 95.00 95.02 6.5535  # mark 0"),
-        (b"IR", 100, [7, 0], "mark IR 3 18 95.00 95.02 0.01 0700  # mark 0"),
-        (b"IR", 25, [0, 255], "mark IR 3 18 95.00 95.02 0.0025 00ff  # mark 0"),
-        (b"ZZ", 0, [0, 0], "mark ZZ 3 18 95.00 95.02 0.00  # mark 0"),
-        (b"ZZ", 100, [0, 0], "mark ZZ 3 18 95.00 95.02 0.01  # mark 0"),
-    ] {
-        let file = Day { marks: vec![Mark { increment, padding, ..mark(code, 3, 18) }], ..Day::default() }.bytes();
-        assert!(shown(&file).lines().any(|line| line == shows), "no line `{shows}` in\n{}", shown(&file));
-        assert_eq!(bytes_of(shows), file);
-    }
-}
-
 #[test]
 fn numbers_at_the_ends_of_their_fields() {
     let text = "mark 0xFF00 255 0 0.0 0.0\ncorrection 4294967295 @0 0.0\nposition 4294967295 @0 -2147483648\nposition 0 @0 2147483647";
     let file = bytes_of(text);
     assert_eq!(file[24..28], [0xff, 0, 0xff, 0]);
-    assert_eq!(file[40..44], [0xff; 4]);
-    assert_eq!(file[52..64], [0xff, 0xff, 0xff, 0xff, 0, 0, 0, 0, 0, 0, 0, 0x80]);
-    assert_eq!(file[64..], [0, 0, 0, 0, 0, 0, 0, 0, 0xff, 0xff, 0xff, 0x7f]);
+    assert_eq!(file[36..40], [0xff; 4]);
+    assert_eq!(file[48..60], [0xff, 0xff, 0xff, 0xff, 0, 0, 0, 0, 0, 0, 0, 0x80]);
+    assert_eq!(file[60..], [0, 0, 0, 0, 0, 0, 0, 0, 0xff, 0xff, 0xff, 0x7f]);
 }
 
 #[test]
 fn headers_as_they_are_written() {
     let usual = case().bytes();
     assert_eq!(bytes_of(&format!("header _ _ _ _ _ _\n{CASE}")), usual);
-    assert_eq!(bytes_of(&format!("{CASE}header 1 24 2 40 2 64")), usual);
+    assert_eq!(bytes_of(&format!("{CASE}header 1 24 2 36 2 60")), usual);
     assert_eq!(bytes_of(&format!("{CASE}header none")), usual[24..]);
     let file = bytes_of(&format!("header _ _ 513 _ _ 4294967295\n{CASE}"));
-    assert_eq!(file[..24], [1, 0, 0, 0, 24, 0, 0, 0, 1, 2, 0, 0, 40, 0, 0, 0, 2, 0, 0, 0, 255, 255, 255, 255]);
+    assert_eq!(file[..24], [1, 0, 0, 0, 24, 0, 0, 0, 1, 2, 0, 0, 36, 0, 0, 0, 2, 0, 0, 0, 255, 255, 255, 255]);
     assert_eq!(file[24..], usual[24..]);
 }
 

@@ -6,14 +6,8 @@ use super::{made, wrong_with};
 const MISTAKES: &[(&str, &str)] = &[
     ("marks IR 3 18 95.00 95.02", "line 1, field 1: marks is none of mark, correction, position, header and bytes"),
     ("\n\n Mark", "line 3, field 1: Mark is none of mark, correction, position, header and bytes"),
-    (
-        "mark IR 3 18 95.00",
-        "line 1: a mark has 6 to 8 fields, mark CODE MONTH YEAR PREVIOUS TODAY [INCREMENT [BYTES]], and here are 5",
-    ),
-    (
-        "mark IR 3 18 95.00 95.02 0.01 0000 1",
-        "line 1: a mark has 6 to 8 fields, mark CODE MONTH YEAR PREVIOUS TODAY [INCREMENT [BYTES]], and here are 9",
-    ),
+    ("mark IR 3 18 95.00", "line 1: a mark has 6 fields, mark CODE MONTH YEAR PREVIOUS TODAY, and here are 5"),
+    ("mark IR 3 18 95.00 95.02 1", "line 1: a mark has 6 fields, mark CODE MONTH YEAR PREVIOUS TODAY, and here are 7"),
     ("correction 7 @0", "line 1: a correction has 4 fields, correction NUMBER MARK PRICE, and here are 3"),
     ("position 1 XT 3 27 5", "line 1: a position has 4 fields, position ACCOUNT MARK LOTS, and here are 6"),
     ("position # 1 @0 5", "line 1: a position has 4 fields, position ACCOUNT MARK LOTS, and here are 1"),
@@ -48,19 +42,6 @@ const MISTAKES: &[(&str, &str)] = &[
     ("correction 7 @0 95.", "line 1, field 4: 95. is no price: write digits with a point, as in 95.01"),
     ("correction 7 @0 429496.7296", "line 1, field 4: 429496.7296 is no price: the largest is 429496.7295"),
     ("correction 7 @0 4294967296u", "line 1, field 4: 4294967296u is no number of units: write digits and u, as in 950100u"),
-    // Increments and last bytes
-    ("mark XX 3 27 0.0 0.0 25", "line 1, field 7: 25 has no decimal point: write 0.0025, or 25u for units of 0.0001"),
-    ("mark XX 3 27 0.0 0.0 0,0025", "line 1, field 7: 0,0025 is no increment: write digits with a point, as in 0.0025"),
-    ("mark XX 3 27 0.0 0.0 fine", "line 1, field 7: fine is no increment: write digits with a point, as in 0.0025"),
-    ("mark XX 3 27 0.0 0.0 0.00255", "line 1, field 7: 0.00255 is no increment: it has one to four decimals, as in 0.0025"),
-    ("mark XX 3 27 0.0 0.0 95.01", "line 1, field 7: 95.01 is no increment: the largest is 6.5535"),
-    ("mark XX 3 27 0.0 0.0 65536u", "line 1, field 7: 65536u is no increment: the largest is 6.5535"),
-    ("mark XX 3 27 0.0 0.0 -25u", "line 1, field 7: -25u is no number of units: write digits and u, as in 25u"),
-    ("mark XX 3 27 0.0 0.0 0.0025 0", "line 1, field 8: 0 is no pair of bytes: write four hexadecimal digits, as in 0700"),
-    (
-        "mark XX 3 27 0.0 0.0 0.0025 0x00",
-        "line 1, field 8: 0x00 is no pair of bytes: write four hexadecimal digits, as in 0700",
-    ),
     // Numbers that do not fit
     (
         "correction 4294967296 @0 95.0",

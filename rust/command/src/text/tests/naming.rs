@@ -1,8 +1,12 @@
 //! Marks that are named by their contracts.
 
 use super::super::{made, Lines};
-use super::{bytes_of, mark, shown, wrong_with};
+use super::{bytes_of, shown, wrong_with};
 use citronreef::records::{Day, Mark, Position, MAX_POSITIONS};
+
+fn mark(code: &[u8; 2], month: u8, year: u8) -> Mark {
+    Mark { code: *code, month, year, previous: 950_000, today: 950_200 }
+}
 
 fn day(marks: &[Mark], named: &[u32]) -> Day {
     let position = |&mark: &u32| Position { account: 1001, mark, lots: 250 };
@@ -49,7 +53,7 @@ fn a_name_that_more_than_one_mark_has() {
     let marks = "mark IR 3 27 95.0 95.02\nmark XT 3 27 95.0 95.02\n# again\nmark IR 3 27 96.0 96.02\n";
     let said = "line 5, field 3: more than one mark has the name IR/3/27: write the index of one, @0 (line 1), @2 (line 4)";
     assert_eq!(wrong_with(format!("{marks}position 1001 IR/3/27 250")), said);
-    assert_eq!(bytes_of(&format!("{marks}position 1001 XT/3/27 250"))[24 + 48 + 4], 1);
+    assert_eq!(bytes_of(&format!("{marks}position 1001 XT/3/27 250"))[24 + 36 + 4], 1);
     let many = "mark IR 3 27 95.0 95.02\n".repeat(100_000) + "correction 1 IR/3/27 95.0";
     assert!(wrong_with(many).ends_with("@0 (line 1), @1 (line 2), @2 (line 3), @3 (line 4), .."));
 }

@@ -3,7 +3,7 @@
 use super::{bytes_of, case, shown};
 use citronreef::records::{Day, HEADER_SIZE, MAX_CORRECTIONS, MAX_MARKS, MAX_POSITIONS};
 use citronreef::settle;
-use oracles::days::{damage_bytes, damage_record, day, day_of, old_file};
+use oracles::days::{damage_bytes, damage_record, day, day_of};
 use oracles::random::Random;
 
 /// Checks one file, and answers whether a fault of its layout is told.
@@ -100,16 +100,15 @@ fn headers_that_break_the_layout() {
         vec![0xff; 23],
         with_header([most, 24, most, 12, most, 0], &[]),
         with_header([most, most, most, most, most, most], rest),
-        with_header([268_435_457, 24, 0, 40, 0, 40], &[0; 16]),
-        with_header([1, 25, 2, 40, 2, 64], rest),
-        with_header([1, 24, 2, 24, 2, 64], rest),
-        with_header([1, 24, 2, 40, 2, most], rest),
-        with_header([1, 24, 2, 40, 1, 64], rest),
-        with_header([1, 24, 2, 40, 3, 64], rest),
-        with_header([1, 0, MAX_CORRECTIONS as u32 + 1, 40, 2, 64], rest),
+        with_header([357_913_942, 24, 0, 32, 0, 32], &[0; 8]),
+        with_header([1, 25, 2, 36, 2, 60], rest),
+        with_header([1, 24, 2, 24, 2, 60], rest),
+        with_header([1, 24, 2, 36, 2, most], rest),
+        with_header([1, 24, 2, 36, 1, 60], rest),
+        with_header([1, 24, 2, 36, 3, 60], rest),
+        with_header([1, 0, MAX_CORRECTIONS as u32 + 1, 36, 2, 60], rest),
         with_header([0, 24, 0, 24, 0, 24], rest),
-        with_header([1, 24, 2, 40, 2, 76], &[rest, &[0; 12]].concat()),
-        old_file(&case()),
+        with_header([1, 24, 2, 36, 2, 72], &[rest, &[0; 12]].concat()),
     ];
     assert!(refused.iter().all(|file| comes_back(file)));
     assert!(!comes_back(&with_header([0, 24, 0, 24, 0, 24], &[])));

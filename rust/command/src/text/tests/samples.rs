@@ -1,6 +1,6 @@
 //! The samples make the files of these records, which settle as they should.
 
-use super::{bytes_of, case, mark};
+use super::{bytes_of, case};
 use citronreef::records::{Correction, Day, Mark, Position, MAX_POSITIONS};
 use citronreef::{write_sheet, SHEET_SIZE};
 
@@ -45,7 +45,7 @@ fn sample_day() -> Day {
     let positions =
         [(1001, 0, 250), (1001, 4, -40), (1002, 1, -120), (1002, 2, 75), (1003, 3, 30), (1003, 4, 15), (1003, 5, -8)];
     Day {
-        marks: marks.map(|(code, month, previous, today)| Mark { previous, today, ..mark(code, month, 27) }).to_vec(),
+        marks: marks.map(|(&code, month, previous, today)| Mark { code, month, year: 27, previous, today }).to_vec(),
         corrections: corrections.map(|(number, mark, price)| Correction { number, mark, price }).to_vec(),
         positions: positions.map(|(account, mark, lots)| Position { account, mark, lots }).to_vec(),
     }
