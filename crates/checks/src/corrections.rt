@@ -16,7 +16,7 @@ use pairs::{Key, earlier};
 use products::off_tick;
 
 // What is wrong with a correction by itself.
-#[derive(Drop)]
+#[derive(Clone, Copy)]
 pub struct CorrectionFaults {
     // 9: it names no mark
     pub missing: bool,
@@ -64,7 +64,7 @@ fn some_fault(marks: &[u8], ticks: &[u32; DayFile::MAX_MARKS], corrections: &[u8
 }
 
 // The first correction with each fault.
-#[derive(Drop)]
+#[derive(Clone, Copy)]
 pub struct CorrectionFindings {
     pub missing: Found,
     pub price: Found,
@@ -117,7 +117,7 @@ fn decide(f: CorrectionFindings, clash: Found, wanted: Wanted) -> Decision
 }
 
 // What the checks over corrections decide, and how many corrections bear a number that an earlier one bears.
-#[derive(Drop)]
+#[derive(Clone, Copy)]
 pub struct CorrectionsJudged {
     pub decision: Decision,
     pub resent: usize,

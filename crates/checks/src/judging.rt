@@ -15,14 +15,14 @@ use numbers::{Decision, Wanted};
 
 // A file that passes checks 1 to 13 and 16: its counts, and how many of its corrections bear a number that an earlier one bears.
 // Or the number of the check that turns it away, and the record's index.
-#[derive(Drop)]
+#[derive(Clone, Copy)]
 pub enum Judged {
     Passed { counts: DayFile, resent: usize },
     Refused { number: u32, index: usize },
 }
 
 // What the checks over records decide, and how many corrections bear a number that an earlier one bears.
-#[derive(Drop)]
+#[derive(Clone, Copy)]
 pub struct RecordsJudged {
     pub decision: Decision,
     pub resent: usize,

@@ -17,7 +17,7 @@ use products::{PRICE_LIMIT, Product, has_month, lookup, off_tick};
 const YEAR_LIMIT: u8 = 99;
 
 // What is wrong with a mark by itself, and its product's tick, 1 where there is no product.
-#[derive(Drop)]
+#[derive(Clone, Copy)]
 pub struct MarkFaults {
     // 4: the code is not in the product table
     pub code: bool,
@@ -97,7 +97,7 @@ pub(crate) fn some_fault(marks: &[u8], ticks: &mut [u32; DayFile::MAX_MARKS]) ->
 }
 
 // The first mark with each fault.
-#[derive(Drop)]
+#[derive(Clone, Copy)]
 pub struct MarkFindings {
     pub code: Found,
     pub date: Found,

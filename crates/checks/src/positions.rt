@@ -17,7 +17,7 @@ use pairs::{Key, first_repeated};
 const LOTS_LIMIT: u32 = 1_000_000;
 
 // What is wrong with a position by itself.
-#[derive(Drop)]
+#[derive(Clone, Copy)]
 pub struct PositionFaults {
     // 12: it names no mark
     pub missing: bool,
@@ -68,7 +68,7 @@ fn some_fault(marks: &[u8], positions: &[u8]) -> bool
 }
 
 // The first position with each fault.
-#[derive(Drop)]
+#[derive(Clone, Copy)]
 pub struct PositionFindings {
     pub missing: Found,
     pub lots: Found,

@@ -21,7 +21,7 @@ use settlement::{MarkPrices, Settlement};
 
 // The answer of a call on one contract: the number given, with a refused of 0; or the number of the check that refuses it.
 #[repr(C)]
-#[derive(Drop)]
+#[derive(Clone, Copy)]
 pub struct Quote {
     pub refused: u64,
     pub number: u64,
@@ -30,7 +30,7 @@ pub struct Quote {
 // The answer to a day file. Where it is accepted refused and index are 0; where it is refused they say by which check and at
 // which record, and the rest is 0.
 #[repr(C)]
-#[derive(Drop)]
+#[derive(Clone, Copy)]
 pub struct Outcome {
     pub refused: u64,
     pub index: u64,
@@ -82,7 +82,7 @@ fn day_numbers(s: Settlement) -> Outcome
 
 // What is said of one mark of a day file. Where it is refused, refused and index say by which check and at which record, and the rest is 0.
 #[repr(C)]
-#[derive(Drop)]
+#[derive(Clone, Copy)]
 pub struct MarkOutcome {
     pub refused: u64,
     pub index: u64,
@@ -140,7 +140,7 @@ fn mark_numbers(p: MarkPrices) -> MarkOutcome
 
 // The record where the condition of one check holds first. Where none is found, both are 0.
 #[repr(C)]
-#[derive(Drop)]
+#[derive(Clone, Copy)]
 pub struct Finding {
     pub found: u64,
     pub index: u64,
@@ -161,7 +161,7 @@ fn finding_numbers(f: Found) -> Finding
 // The answer of the maker: the file's length, with a refused and an index of 0. Where it is refused, refused and index say by which
 // check and at which record, and the length is 0.
 #[repr(C)]
-#[derive(Drop)]
+#[derive(Clone, Copy)]
 pub struct Making {
     pub refused: u64,
     pub index: u64,

@@ -11,7 +11,7 @@ use crate::records::{Correction, Mark, Position};
 use numbers::{Decision, Found, Wanted};
 
 // The counts of a day file's three sections.
-#[derive(Drop)]
+#[derive(Clone, Copy)]
 pub struct DayFile {
     pub marks: u32,
     pub corrections: u32,
@@ -87,7 +87,7 @@ fn section(file: &[u8], start: usize, end: usize) -> &[u8]
 }
 
 // The file's counts, or the number of the check that it fails.
-#[derive(Drop)]
+#[derive(Clone, Copy)]
 pub enum Opened {
     File(DayFile),
     Refused(u32),

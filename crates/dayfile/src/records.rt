@@ -8,7 +8,7 @@ use crate::bytes::u32_at;
 use numbers::as_signed;
 use products::Code;
 
-#[derive(Drop)]
+#[derive(Clone, Copy)]
 pub struct Mark {
     pub code: Code,
     pub month: u8,
@@ -17,14 +17,14 @@ pub struct Mark {
     pub today: u32,
 }
 
-#[derive(Drop)]
+#[derive(Clone, Copy)]
 pub struct Correction {
     pub number: u32,
     pub mark: usize,
     pub price: u32,
 }
 
-#[derive(Drop)]
+#[derive(Clone, Copy)]
 pub struct Position {
     pub account: u32,
     pub mark: usize,
@@ -33,7 +33,7 @@ pub struct Position {
 
 // A position as its bytes have it: three numbers of 32 bits, the lots in two's complement. The compiler takes four such positions
 // at a time.
-#[derive(Drop)]
+#[derive(Clone, Copy)]
 pub struct RawPosition {
     pub account: u32,
     pub mark: u32,

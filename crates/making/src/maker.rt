@@ -7,7 +7,7 @@ use crate::plans::{Plan, plan_of};
 use crate::writing::write_file;
 
 // The length of the file that was made; or the number of a check and the index of a record.
-#[derive(Drop)]
+#[derive(Clone, Copy)]
 pub enum Made {
     File { length: usize },
     Refused { number: u32, index: usize },

@@ -12,7 +12,7 @@ use dayfile::{Correction, DayFile, Mark, Position, correction_count, mark_count,
 use numbers::Decision;
 
 // The counts of the file to make; or the number of the check that refuses it, and the index of a record.
-#[derive(Drop)]
+#[derive(Clone, Copy)]
 pub enum Plan {
     File(DayFile),
     Refused { number: u32, index: usize },

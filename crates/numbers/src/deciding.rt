@@ -5,14 +5,14 @@ ghost use Rattle.numbers.specs.Order.{takes, sought, or_found, or_later, found_i
 use crate::Found;
 
 // The number of the condition that decides, with the index of the record that meets it first; or that no record meets any.
-#[derive(Drop)]
+#[derive(Clone, Copy)]
 pub enum Decision {
     Met { number: u32, index: usize },
     Unmet,
 }
 
 // The conditions that are looked at: all, or the one with a number.
-#[derive(Drop)]
+#[derive(Clone, Copy)]
 pub enum Wanted {
     All,
     One(u32),

@@ -11,7 +11,7 @@ pub use deciding::{Decision, Wanted};
 pub use words::{as_signed, joined};
 
 // An index, or nothing.
-#[derive(Drop)]
+#[derive(Clone, Copy)]
 pub enum Found {
     At(usize),
     Nothing,

@@ -12,7 +12,7 @@ use crate::sift::sift_all;
 use numbers::Found;
 
 // What comes of a search: the index of the first record that repeats an earlier one, or the number of all records; or no answer.
-#[derive(Drop)]
+#[derive(Clone, Copy)]
 pub enum Tried {
     Answered(usize),
     Unanswered,

@@ -6,7 +6,7 @@ ghost use Rattle.pairs.specs.Keys.{width_of, key_of, key_at, least, looked_at};
 use numbers::joined;
 
 // How many bytes of a record its key has.
-#[derive(Drop)]
+#[derive(Clone, Copy)]
 pub enum Key {
     Four,
     Eight,

@@ -42,7 +42,7 @@ fn stirred(x: u64, seed: u64, anew: bool) -> u64
 }
 
 // What comes of a record's try at a place: it stays there, or repeats the record that is there, or that one has another key.
-#[derive(Drop)]
+#[derive(Clone, Copy)]
 pub enum Placed {
     Stays,
     Repeats,
@@ -126,7 +126,7 @@ fn gives_up(left: usize, t: usize, early: usize) -> bool
 }
 
 // What comes of a record: it repeats another; or too many are left; or so many are.
-#[derive(Drop)]
+#[derive(Clone, Copy)]
 pub enum Step {
     Repeated,
     GivenUp,

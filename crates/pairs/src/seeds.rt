@@ -8,7 +8,7 @@ use crate::keys::{Key, key_at, wide};
 use std::num::wrapping_add_u64;
 
 // The four numbers into which keys are mixed, by the rounds of SipHash.
-#[derive(Drop)]
+#[derive(Clone, Copy)]
 pub struct Mix {
     a: u64,
     b: u64,

@@ -15,7 +15,7 @@ use crate::seeds::seed_of;
 const TURNS: u64 = 16;
 
 // The first record that repeats another, or the number of all; how many are left, and whether the list has them all.
-#[derive(Drop)]
+#[derive(Clone, Copy)]
 pub struct Sifted {
     pub found: usize,
     pub left: usize,

@@ -11,14 +11,14 @@ use crate::values::{bill_at, bond_at, cash_at, two_at};
 use products::{Code, NamedProduct, PRICE_LIMIT, Terms, lookup, off_tick};
 
 // The number asked for, or the number of the check that turns the call away.
-#[derive(Drop)]
+#[derive(Clone, Copy)]
 pub enum Priced {
     Given(u64),
     Refused(u32),
 }
 
 // Whether a price passes checks 6 and 7, or the number of the first that it fails.
-#[derive(Drop)]
+#[derive(Clone, Copy)]
 pub enum PriceChecked {
     Passed,
     Failed(u32),
@@ -37,7 +37,7 @@ pub(crate) fn check_price(tick: u32, p: u32) -> PriceChecked
 }
 
 // The terms and the tick of the product at a price that passes checks 4, 6 and 7, or the number of the first that fails.
-#[derive(Drop)]
+#[derive(Clone, Copy)]
 enum Checked {
     Product { terms: Terms, tick: u32 },
     Refused(u32),

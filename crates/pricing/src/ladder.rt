@@ -43,7 +43,7 @@ fn next_factor(v: u32, first: u32) -> u64
 }
 
 // A ladder at one of its rungs: V1, Vk and V1 + .. + Vk.
-#[derive(Drop)]
+#[derive(Clone, Copy)]
 pub struct Rung {
     pub first: u32,
     pub v: u32,
@@ -99,7 +99,7 @@ pub(crate) fn bracket_at(coupon: u64, halves: u64, p: u64) -> u64
 }
 
 // What holds at one price, and at another.
-#[derive(Drop)]
+#[derive(Clone, Copy)]
 pub struct Two {
     pub one: u64,
     pub other: u64,

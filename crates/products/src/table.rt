@@ -8,17 +8,17 @@ use numbers::joined;
 pub const PRICE_LIMIT: u32 = 1_000_000;
 
 // The two letters of a product's code. Any two bytes may be asked for.
-#[derive(Drop)]
+#[derive(Clone, Copy)]
 pub struct Code(pub u8, pub u8);
 
-#[derive(Drop)]
+#[derive(Clone, Copy)]
 pub enum Currency {
     Aud,
     Nzd,
 }
 
 // What a product is, with the terms of its kind.
-#[derive(Drop)]
+#[derive(Clone, Copy)]
 pub enum Terms {
     Bill { face: u64, days: u64 },
     // The half-yearly coupon on 100 of face, and the number of half years.
@@ -27,7 +27,7 @@ pub enum Terms {
     CashRate { cents: u64 },
 }
 
-#[derive(Drop)]
+#[derive(Clone, Copy)]
 pub struct Product {
     pub code: Code,
     pub terms: Terms,
@@ -105,7 +105,7 @@ pub const PRODUCTS: [Product; 6] = [
     },
 ];
 
-#[derive(Drop)]
+#[derive(Clone, Copy)]
 pub enum NamedProduct {
     Named(Product),
     Missing,

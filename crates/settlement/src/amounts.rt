@@ -18,7 +18,7 @@ fn times(lots: i64, change: i64) -> i64
 }
 
 // The sums of the amounts in Australian cents and of those in New Zealand cents.
-#[derive(Drop)]
+#[derive(Clone, Copy)]
 pub struct Sums {
     pub aud: AudCents,
     pub nzd: NzdCents,

@@ -3,11 +3,11 @@ ghost use Rattle.std.specs.Prelude.{◌≡◌, ◌+ℤ◌};
 ghost use Rattle.settlement.specs.SettlingSteps.{Addable};
 
 // A number of Australian cents.
-#[derive(Drop)]
+#[derive(Clone, Copy)]
 pub struct AudCents(i64);
 
 // A number of New Zealand cents.
-#[derive(Drop)]
+#[derive(Clone, Copy)]
 pub struct NzdCents(i64);
 
 impl AudCents {

@@ -11,7 +11,7 @@ use dayfile::{Correction, correction_at, correction_count, mark_at, mark_count};
 
 // A mark's previous and final price, whether a correction decides it and its number, and the change in value of one contract, in cents; or
 // the number of a check and an index.
-#[derive(Drop)]
+#[derive(Clone, Copy)]
 pub enum MarkPrices {
     Priced {
         previous: u32,
@@ -27,7 +27,7 @@ pub enum MarkPrices {
 }
 
 // The highest-numbered correction of a mark so far, if there is one.
-#[derive(Drop)]
+#[derive(Clone, Copy)]
 pub struct Deciding {
     pub corrected: bool,
     pub number: u32,

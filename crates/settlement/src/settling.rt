@@ -12,7 +12,7 @@ use checks::{Judged, judge};
 use dayfile::{DayFile, position_count};
 
 // The answer to a day file: how many positions, the totals and the resent count; or the number of a check and the index of a record.
-#[derive(Drop)]
+#[derive(Clone, Copy)]
 pub enum Settlement {
     Settled {
         positions: usize,

@@ -4,7 +4,7 @@ ghost use Rattle.sheet.specs.Input.{Moves, InBuffer};
 use libc::STDIN_FILENO;
 
 // What one read brings: some bytes, the end of the input, or a failure.
-#[derive(Drop)]
+#[derive(Clone, Copy)]
 pub enum Step {
     Some(usize),
     End,
@@ -26,7 +26,7 @@ fn read_some(part: &mut [u8]) -> Step
 }
 
 // How many bytes the input has put at the start of the buffer.
-#[derive(Drop)]
+#[derive(Clone, Copy)]
 pub enum Input {
     Bytes(usize),
     Failed,
