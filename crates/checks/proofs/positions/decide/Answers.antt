@@ -1,0 +1,5 @@
+use Rattle.std.proofs.Common.{rules}
+use Rattle.checks.proofs.positions.decide.Goals as goal
+
+pub returns : goal.returns
+returns c = rw (c.or_found.ensures, c.or_found-d-2.ensures, c.or_found-d.ensures)

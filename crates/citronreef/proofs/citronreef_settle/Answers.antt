@@ -1,0 +1,8 @@
+use mathlib.Core.Path.{ap, ◌∙◌}
+use borrow.Author.Rules.{rules}
+use Rattle.citronreef.specs.Numbers.{outcome_of}
+use Rattle.citronreef.proofs.citronreef_settle.Goals as goal
+
+pub returns : goal.returns
+returns c =
+    (c.day_numbers.ensures ∙ ap outcome_of c.settle.ensures.0, c.settle.ensures.1)

@@ -1,0 +1,19 @@
+-- By the kind of answer: the totals of a settlement are the cents of their currencies, and beside a refusal's two numbers all others are 0.
+use mathlib.Core.Path.{ap, sym, ◌∙◌}
+use borrow.Author.Rules.{rules}
+use mir.Syntax.{w64}
+use mir.Facts.{to_z-of_z}
+use Rattle.settlement.specs.Settling.{said}
+use Rattle.citronreef.specs.Numbers.{outcome_of}
+use Rattle.citronreef.proofs.day_numbers.Goals as goal
+
+pub returns-in-Settled : goal.returns-in-Settled
+returns-in-Settled c =
+    let a = c.cents in
+    let n = c.cents-in-Settled in
+    let aud = to_z-of_z {w = w64} {z = a.result} (record { sfits = a.type-inv }) ∙ a.ensures in
+    let nzd = to_z-of_z {w = w64} {z = n.result} (record { sfits = n.type-inv }) ∙ n.ensures in
+    rw (aud, nzd) (sym (ap (λ s. outcome_of (said s)) c.in-Settled.is))
+
+pub returns-in-Refused : goal.returns-in-Refused
+returns-in-Refused c = sym (ap (λ s. outcome_of (said s)) c.in-Refused.is)

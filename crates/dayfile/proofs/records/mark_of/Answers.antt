@@ -1,0 +1,6 @@
+use borrow.Author.Rules.{rules}
+use Rattle.dayfile.proofs.records.mark_of.Goals as goal
+
+pub returns : goal.returns
+returns c =
+    cc

@@ -1,0 +1,19 @@
+use Rattle.making.proofs.Planned.{whole_here, answer-refused, answer-made}
+use borrow.Author.Rules.{rules}
+use Rattle.making.proofs.maker.make.Goals as goal
+
+pub write_file-requires : goal.write_file-requires
+write_file-requires c =
+    let a = c.args in
+    whole_here a.marks.now a.corrections.now a.positions.now a.out.now c.plan_of.ensures c.in-File.is
+
+pub returns-in-Refused : goal.returns-in-Refused
+returns-in-Refused c =
+    let a = c.args in
+    answer-refused a.marks.now a.corrections.now a.positions.now a.out.now c.plan_of.ensures c.in-Refused.is
+
+pub returns-in-File : goal.returns-in-File
+returns-in-File c =
+    let a = c.args in
+    answer-made a.marks.now a.corrections.now a.positions.now a.out.now c.plan_of.ensures c.in-File.is
+    c.length.ensures c.write_file.ensures.written

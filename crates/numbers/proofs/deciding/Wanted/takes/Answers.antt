@@ -1,0 +1,5 @@
+use Rattle.std.proofs.Common.{rules}
+use Rattle.numbers.proofs.deciding.Wanted.takes.Goals as goal
+
+pub returns-in-One : goal.returns-in-One
+returns-in-One c = rw c.in-One.is

@@ -1,0 +1,14 @@
+-- By whether a record is as long as its key; where it is, its size is not 0, since every key has bytes, and the records can be counted.
+use Rattle.std.proofs.Common.{arith, rules}
+use Rattle.pairs.proofs.Records.{looked-none, looked-some}
+use Rattle.pairs.proofs.Rooms.{width_pos}
+use Rattle.pairs.proofs.keys.looked_at.Goals as goal
+
+pub nonzero_div-records : goal.nonzero_div-records
+nonzero_div-records c = omega (arith, width_pos c.args.key, c.width.ensures)
+
+pub returns-then-size-width : goal.returns-then-size-width
+returns-then-size-width c = looked-none _ _ _ (rw c.width.ensures at c.if-size-width.taken)
+
+pub returns-else-size-width : goal.returns-else-size-width
+returns-else-size-width c = looked-some _ _ _ (rw c.width.ensures at c.if-size-width.left) c.smaller.ensures

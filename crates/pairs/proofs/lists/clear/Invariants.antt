@@ -1,0 +1,11 @@
+-- At place a all places before it are empty; past the end there is nothing.
+use Rattle.std.proofs.Common.{◌≡◌, ℕ, ◌+◌, ◌-◌, ◌<◌, ◌≤◌, List, length, get_or, set, refl, ◌∙◌, ⊎_elim, le_of_suc-le-suc, eq-or-lt_of_le, add-one, arith, length-set, get_or-set_other, get_or-set_same, rules}
+use native.Mathlib.Decide.{dec_lt}
+use lib.ListN.{get_or-eq_default}
+use Rattle.pairs.proofs.lists.clear.Given as goal
+
+abbrev pub invariant-loop-u : goal.invariant-loop-u
+invariant-loop-u l = (length l.list ≡ length l.initial.list) × (l.u ≤ length l.list) × ((i : ℕ) → i < l.u → get_or l.list i 0 ≡ 0)
+
+abbrev pub decreases-loop-u : goal.decreases-loop-u
+decreases-loop-u l = length l.initial.list - l.u

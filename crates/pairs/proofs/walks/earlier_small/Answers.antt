@@ -1,0 +1,16 @@
+-- As many roots as there may be records, and two places below each record, fit in three times as many places; these and those for the last records start empty.
+use Rattle.std.proofs.Common.{◌*◌, arith, rules}
+use Rattle.pairs.specs.Walks.{small}
+use Rattle.pairs.proofs.Rooms.{room_in}
+use Rattle.pairs.proofs.Trees.{zeros}
+use Rattle.pairs.proofs.walks.earlier_small.Goals as goal
+
+pub earlier_in-requires : goal.earlier_in-requires
+earlier_in-requires c =
+    let p = c.requires in (
+      room_in small (3 * small) p.0 (omega arith) (omega arith) (omega (arith, c.requires.2)),
+      zeros (3 * small),
+      zeros small,
+      omega (arith, c.requires.2),
+      p.1,
+    )

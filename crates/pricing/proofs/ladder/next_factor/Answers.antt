@@ -1,0 +1,8 @@
+use native.Mathlib.Omega.{arith}
+use borrow.Author.Rules.{rules}
+use Rattle.pricing.specs.Value.{scale}
+use Rattle.pricing.proofs.ladder.next_factor.Goals as goal
+
+pub returns : goal.returns
+unfolding scale
+returns c = c.rounded.ensures

@@ -1,0 +1,28 @@
+use Prim.Native.Nat.{◌≤◌, ◌-◌}
+use Prim.Native.Nat.{ℕ}
+use mathlib.Core.List.{List}
+use native.Mathlib.Nat.{le_trans, le_antisymm}
+use native.Mathlib.Omega.{arith}
+use lib.ListN.{get_or}
+use Rattle.numbers.specs.Folds.{Filled}
+use Rattle.pricing.specs.Rungs.{rung_at, no_rung}
+use Rattle.pricing.specs.Calls.{lanes}
+use Rattle.pricing.proofs.SideBySide.{all_low, all_next}
+use borrow.Author.Rules.{rules}
+use Rattle.pricing.proofs.lanes.ladders.Goals as goal
+
+pub loop-k-init : goal.loop-k-init
+loop-k-init c = (omega arith, c.requires.0, λ p h. h)
+
+pub climbs-next-requires : goal.climbs-next-requires
+climbs-next-requires c =
+    let s = c.requires in
+    all_low s.2 (le_trans c.loop-k.invariant.1 s.1) (c.loop-k.invariant.2 c.args.p c.starts-l.ensures)
+
+pub loop-k-preserved : goal.loop-k-preserved
+loop-k-preserved c =
+    let at = c.loop-k.invariant in
+    (omega arith, omega arith, λ p h. all_next p at.0 (at.2 p h) c.climbs-next.ensures)
+
+pub returns : goal.returns
+returns c = rw (le_antisymm c.loop-k.invariant.1 c.loop-k-test.false) at (c.loop-k.invariant.2 c.args.p c.starts-l.ensures)

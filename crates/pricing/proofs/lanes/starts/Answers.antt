@@ -1,0 +1,20 @@
+use Prim.Native.Nat.{◌-◌}
+use mathlib.Core.Path.{refl}
+use lib.ListN.{get_or}
+use Rattle.pricing.specs.Rungs.{rung_at, no_rung}
+use Rattle.pricing.specs.Calls.{lanes}
+use Rattle.numbers.proofs.Filled.{Done, none_done, one_more, all_done}
+use borrow.Author.Rules.{rules}
+use Rattle.pricing.proofs.lanes.starts.Goals as goal
+
+pub loop-i-init : goal.loop-i-init
+loop-i-init c = none_done refl
+
+pub start-requires : goal.start-requires
+start-requires c = c.requires.lane c.loop-i.i c.loop-i-test.true
+
+pub loop-i-preserved : goal.loop-i-preserved
+loop-i-preserved c = one_more c.loop-i-test.true c.start.ensures c.loop-i.invariant
+
+pub returns : goal.returns
+returns c = all_done c.loop-i-test.false c.loop-i.invariant

@@ -1,0 +1,17 @@
+-- At mark i the words of the first i marks are written, one after the other, where there is room for them.
+use Prim.Native.Nat.{◌≤◌, ◌-◌}
+use native.Mathlib.Omega.{arith}
+use mathlib.Core.Path.{◌≡◌}
+use lib.ListN.{length}
+use Rattle.dayfile.specs.Records.{marks_in}
+use Rattle.text.specs.Writing.{Writes, texts}
+use Rattle.text.proofs.Writing.{fitted_writes, writes_none, writes_more}
+use Rattle.report.specs.Writers.{words_at}
+use borrow.Author.Rules.{rules}
+use Rattle.report.proofs.words.write_words.Given as goal
+
+abbrev pub invariant-loop-i : goal.invariant-loop-i
+invariant-loop-i l = (l.i ≤ l.n) × Writes (texts (words_at (marks_in l.marks)) l.i) l.at l.initial.out l.out
+
+abbrev pub decreases-loop-i : goal.decreases-loop-i
+decreases-loop-i l = l.n - l.i
