@@ -156,9 +156,9 @@ judged_by_lists l f o =
     let p = position_checks ls.marks ls.positions in
     let h = (opens l f o).0 in
     let n = header-counts f h.ends_at in
-    let few-marks : length ls.marks ≤ l.marks = rw n.0 h.marks-fit in
-    let few-corrections : length ls.corrections ≤ l.corrections = rw n.1 h.corrections-fit in
-    let few-positions : length ls.positions ≤ l.positions = rw n.2 h.positions-fit in
+    let few-marks : length ls.marks ≤ l.marks = rw n.0 h.marks_fit in
+    let few-corrections : length ls.corrections ≤ l.corrections = rw n.1 h.corrections_fit in
+    let few-positions : length ls.positions ≤ l.positions = rw n.2 h.positions_fit in
     let decided : decision_of (file_checks l f) ≡ or_later (decision_of m) (or_later (decision_of c) (decision_of p)) =
     decision-before (header_checks l f) (record_checks ls) ∙ rw (opened_decides l f o).0 (decision-before m (c before p) ∙ ap (or_later (decision_of m)) (decision-before c p)) in
     ap (judged_by (counts_of f) (resent_of ls.corrections)) decided

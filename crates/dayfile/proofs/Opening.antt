@@ -87,9 +87,9 @@ module _ (l : Limits) (f : List ℕ) where
       opened_by_tests l f
       ∙ simp (
         le-ltb _ _ h.header,
-        le-leb _ _ h.marks-fit,
-        le-leb _ _ h.corrections-fit,
-        le-leb _ _ h.positions-fit,
+        le-leb _ _ h.marks_fit,
+        le-leb _ _ h.corrections_fit,
+        le-leb _ _ h.positions_fit,
         eq-eqb _ _ h.marks-at,
         eq-eqb _ _ h.corrections-at,
         eq-eqb _ _ h.positions-at,
@@ -138,7 +138,7 @@ pub laid_out : (f : List ℕ) {d : DayFile} → opened_of file_limits f ≡ File
 unfolding counts_of
 laid_out f p =
     let (h, e) = opens file_limits f p in
-    rw (← e) (record { counts-within = record { marks = h.marks-fit; corrections = h.corrections-fit; positions = h.positions-fit }; whole = h.ends_at })
+    rw (← e) (record { counts-within = record { marks = h.marks_fit; corrections = h.corrections_fit; positions = h.positions_fit }; whole = h.ends_at })
 
 -- a file longer than the limits allow is refused with 2 or 3
 pub too_long : (f : List ℕ) → 58392 < length f → (opened_of file_limits f ≡ Refused 2) ⊎ (opened_of file_limits f ≡ Refused 3)
@@ -154,4 +154,4 @@ too_long f h = go (within_limits file_limits (counts_of f)) refl (as_laid_out f 
     go true p false q = inr (opened_by_tests file_limits f ∙ rw (whole-header, p, q))
     go true p true q =
         let g = opens_of file_limits f whole-header p q in
-        absurd (omega (arith, g.ends_at, g.marks-fit, g.corrections-fit, g.positions-fit))
+        absurd (omega (arith, g.ends_at, g.marks_fit, g.corrections_fit, g.positions_fit))

@@ -28,11 +28,11 @@ use Rattle.making.proofs.RoundTrip as trip
 -- The answer is a refusal with number k at record i exactly where check k's condition holds at i, at no record before it, and no earlier check's
 -- condition holds at any record.
 pub make_refuses : (l : Limits) (ms cs ps : List ℕ) (room : ℕ) {k i : ℕ} → (answer_of l ms cs ps room ≡ refused k i) ↔ NotMade ms cs ps l room k i
-make_refuses l ms cs ps room = trip.refused-exactly l ms cs ps room
+make_refuses l ms cs ps room = trip.refused_exactly l ms cs ps room
 
 -- The file is made, and the answer is its length, exactly where no condition holds at any record.
 pub make_makes : (l : Limits) (ms cs ps : List ℕ) (room : ℕ) → (answer_of l ms cs ps room ≡ made (length (made_of ms cs ps))) ↔ CanBeMade ms cs ps l room
-make_makes l ms cs ps room = trip.made-exactly l ms cs ps room
+make_makes l ms cs ps room = trip.made_exactly l ms cs ps room
 
 -- The checks, in their order.
 pub numbers_in_order : (l : Limits) (ms cs ps : List ℕ) (room : ℕ)
@@ -56,7 +56,7 @@ pub make_leaves : (l : Limits) (ms cs ps out : List ℕ) → Leaves (answer_of l
 make_leaves l ms cs ps out = by_answer (answer_of l ms cs ps (length out)) refl
   where
     by_answer : (x : Answer) → answer_of l ms cs ps (length out) ≡ x → Leaves x out (buffer_after l ms cs ps out)
-    by_answer (refused k i) e = trip.refusal-leaves l ms cs ps out e
+    by_answer (refused k i) e = trip.refusal_leaves l ms cs ps out e
     by_answer (made n) e = (trip.has_room l ms cs ps out e, trip.length-kept l ms cs ps out e, trip.rest-kept l ms cs ps out e)
 
 -- For an answer of n bytes: `file` is what stands in the first n places of the buffer.
@@ -67,17 +67,17 @@ module _ (ms cs ps out : List ℕ) {n : ℕ} (e : answer_of file_limits ms cs ps
   -- It is the file of the three lists: the counts and offsets stand in its header, each list from its own offset on, and it ends after the last
   -- position.
   pub made-file : DayFileOf file ms cs ps
-  made-file = rw (trip.file-stands file_limits ms cs ps out e) (trip.made-laid-out ms cs ps (trip.fits ms cs ps out e).whole)
+  made-file = rw (trip.file_stands file_limits ms cs ps out e) (trip.made_laid_out ms cs ps (trip.fits ms cs ps out e).whole)
 
   -- Its length is the answer.
   pub made-length : n ≡ header_size + length ms + length cs + length ps
   made-length =
-      let (u, long) = trip.made-decided file_limits ms cs ps (length out) e in
-      sym long ∙ (trip.made-laid-out ms cs ps (trip.fits ms cs ps out e).whole).file-length
+      let (u, long) = trip.made_decided file_limits ms cs ps (length out) e in
+      sym long ∙ (trip.made_laid_out ms cs ps (trip.fits ms cs ps out e).whole).file-length
 
   -- It is a file of bytes where the lists are: so its header's bytes are those of the six numbers, and no others.
   pub made_bytes : Bytes ms → Bytes cs → Bytes ps → Bytes file
-  made_bytes m c p = rw (trip.file-stands file_limits ms cs ps out e) (made-is-bytes ms cs ps m c p)
+  made_bytes m c p = rw (trip.file_stands file_limits ms cs ps out e) (made-is-bytes ms cs ps m c p)
 
   -- Reading it returns the three lists, byte for byte,
   pub reading_made : (mark_bytes file (counts_of file) ≡ ms) × (correction_bytes file (counts_of file) ≡ cs) × (position_bytes file (counts_of file) ≡ ps)
@@ -93,11 +93,11 @@ module _ (ms cs ps out : List ℕ) {n : ℕ} (e : answer_of file_limits ms cs ps
 -- No file that is made has more than 58,392 bytes,
 pub made-within : (ms cs ps out : List ℕ) {n : ℕ} → answer_of file_limits ms cs ps (length out) ≡ made n → n ≤ 58392
 made-within ms cs ps out e =
-    rw (← (trip.made-decided file_limits ms cs ps (length out) e).1) (trip.longest ms cs ps (trip.fits ms cs ps out e).whole)
+    rw (← (trip.made_decided file_limits ms cs ps (length out) e).1) (trip.longest ms cs ps (trip.fits ms cs ps out e).whole)
 
 -- and a buffer of as many is never too short.
 pub room_enough : (ms cs ps : List ℕ) (room : ℕ) → 58392 ≤ room → {i : ℕ} → answer_of file_limits ms cs ps room ≢ refused 17 i
-room_enough ms cs ps room enough = trip.room-enough ms cs ps room enough
+room_enough ms cs ps room enough = trip.room_enough ms cs ps room enough
 
 -- ---- a file made again
 
@@ -107,4 +107,4 @@ pub making_again : (f out : List ℕ) {c : DayFile} {resent : ℕ} → Bytes f �
     → let d = counts_of f in
     (answer_of file_limits (mark_bytes f d) (correction_bytes f d) (position_bytes f d) (length out) ≡ made (length f))
     × (buffer_after file_limits (mark_bytes f d) (correction_bytes f d) (position_bytes f d) out ≡ f ++ drop (length f) out)
-making_again f out b p room = trip.makes-again f out b (judged_passes file_limits f p) room
+making_again f out b p room = trip.makes_again f out b (judged_passes file_limits f p) room

@@ -229,7 +229,7 @@ module _ {key : ℕ → ℕ} {spot : Bool → ℕ → ℕ} {before : ℕ → ℕ
       by_least : (o : ℕ) → FirstOf key (at list) n left o → (b : Bool) → cond b o found < n → Repeats key before m (cond b o found)
       by_least o w true h =
           let r = w.repeats h in
-          record { listed = was_listed within r.listed; other = r.other; listed_too = was_listed within r.listed-too; lower = r.lower; same = r.same }
+          record { listed = was_listed within r.listed; other = r.other; listed_too = was_listed within r.listed_too; lower = r.lower; same = r.same }
       by_least o w false h = repeats h
 
       lowest_by : (o : ℕ) → FirstOf key (at list) n left o → (j k : ℕ) (a : Hit before m j) (b : Hit before m k) → j < k → key j ≡ key k

@@ -34,7 +34,7 @@ sifts-none {key} {n} {list} w =
             within = a.within;
             repeats = λ h.
                 let r = a.repeats h in
-                record { listed = as_listed r.listed; other = r.other; listed_too = as_listed r.listed-too; lower = r.lower; same = r.same };
+                record { listed = as_listed r.listed; other = r.other; listed_too = as_listed r.listed_too; lower = r.lower; same = r.same };
             lowest = λ j k p q l e. a.lowest j k (in_list p) (in_list q) l e;
           });
     }

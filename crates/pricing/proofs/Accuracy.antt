@@ -92,7 +92,7 @@ pub product_close : (code : Code) {product : Product} → find code ≡ Named pr
     → Close 1000 (accuracy_of code previous final) (value_by product.terms p) (exact_by product.terms p)
 unfolding find Roomy
 product_close code {product} f previous final h =
-    terms_close product.terms product.tick _ (rw (← (found-code code f)) (of_found Roomy products code all_roomy f previous final)) h.within h.on-tick
+    terms_close product.terms product.tick _ (rw (← (found-code code f)) (of_found Roomy products code all_roomy f previous final)) h.within h.on_tick
 
 -- lots of a difference of two values
 pub product_accurate : (code : Code) (previous final : ℕ) {m n : ℕ} {product : Product} → find code ≡ Named product → Listed product previous → Listed product final

@@ -67,7 +67,7 @@ valued code p e =
 -- and the other way round
 pub gives-value : (code : Code) (p : ℕ) {product : Product} → find code ≡ Named product → Listed product p → value_of code p ≡ given (value_by product.terms p)
 unfolding value_of
-gives-value code p {product} f h = rw (f, le-leb p price_limit h.within, eq-eqb (p % product.tick) 0 h.on-tick)
+gives-value code p {product} f h = rw (f, le-leb p price_limit h.within, eq-eqb (p % product.tick) 0 h.on_tick)
 
 -- a tick value that is given: the price is within the limit and on the tick, the next one is within the limit, and this is their values' difference
 pub tick-valued : (code : Code) (p : ℕ) {d : ℕ} {product : Product} → find code ≡ Named product → tick_value_of code p ≡ given d

@@ -46,7 +46,7 @@ rounded x d h = half_up x d h
 -- Both are multiplied by q^n, with q = 2,000,000 + Y, and doubled.
 pub ladder_distance : (D c n Y : ℕ) → 0 < D → 1 ≤ n
     → Near (2 * (bracket D c n (base + Y) * (base + Y) ^ n)) (2 * (D * whole_bracket c n (base + Y))) (twice_distance c n * (base + Y) ^ n)
-ladder_distance D c n Y hD hn = distance.ladder-distance D c n (base + Y) hD hn (omega arith)
+ladder_distance D c n Y hD hn = distance.ladder_distance D c n (base + Y) hD hn (omega arith)
 
 -- The exact bracket, c times (v + v² + .. + v^n) + 100 times v^n, is the whole number `whole_bracket` over q^n.
 pub exact_bracket_lem : (c n Y : ℕ) → Same (exact_bracket c n (base + Y)) (record { num = whole_bracket c n (base + Y); den = (base + Y) ^ n })
@@ -77,13 +77,13 @@ numbers_in_order = (refl, refl, refl)
 
 -- Each call is turned away with a number exactly where that check's condition holds and no earlier one does, and answers exactly where none holds.
 pub value_exactly : (code : Code) (p : ℕ) → Exactly code p value_checks (value_of code p)
-value_exactly = refusals.value-exactly
+value_exactly = refusals.value_exactly
 
 pub tick_value_exactly : (code : Code) (p : ℕ) → Exactly code p tick_value_checks (tick_value_of code p)
-tick_value_exactly = refusals.tick-value-exactly
+tick_value_exactly = refusals.tick_value_exactly
 
 pub bracket_exactly : (code : Code) (p : ℕ) → Exactly code p bracket_checks (bracket_of code p)
-bracket_exactly = refusals.bracket-exactly
+bracket_exactly = refusals.bracket_exactly
 
 -- ---- a rise
 
@@ -107,7 +107,7 @@ tick_value_adds code p {product = product} f e =
     let r = value_by_rises product.terms {p = p} {p' = p + product.tick} (omega arith) g in (
       value_by product.terms p,
       gives-value code p f h,
-      gives-value code (p + product.tick) f (record { within = g; on_tick = add-mod_right p product.tick ∙ h.on-tick }) ∙ ap given (omega arith),
+      gives-value code (p + product.tick) f (record { within = g; on_tick = add-mod_right p product.tick ∙ h.on_tick }) ∙ ap given (omega arith),
     )
 
 -- ---- the exact value: the formula without any rounding

@@ -52,7 +52,7 @@ months_are = refl
 
 -- The test of a month says yes exactly for the product's months.
 pub month_exactly : (product : Product) (m : ℕ) → (has_month product m ≡ true) ↔ Memᴰ m (months_of product)
-month_exactly = months.month-exactly
+month_exactly = months.month_exactly
 
 -- A product's tick is positive.
 all_positive : Every (λ product. 0 < product.tick) products

@@ -24,13 +24,13 @@ use Rattle.settlement.proofs.Plans.{plan_from, plan_decided}
 pub payable : (ls : Lists) → ListsPass ls → Payable ls.positions
 payable ls a =
     record {
-      few = a.lists-within.positions;
-      mark = λ i h. omega (arith, mark_in_lem ls a.passed i h, a.lists-within.marks);
+      few = a.lists_within.positions;
+      mark = λ i h. omega (arith, mark_in_lem ls a.passed i h, a.lists_within.marks);
       lots = λ i h. lots_in ls a.passed i h;
     }
 
 pub named : (ls : Lists) → ListsPass ls → Named ls.marks ls.positions
-named ls a = record { few = a.lists-within.marks; mark = λ i h. mark_in_lem ls a.passed i h }
+named ls a = record { few = a.lists_within.marks; mark = λ i h. mark_in_lem ls a.passed i h }
 
 pub record AcceptedFile (l : Limits) (f : List ℕ) (places : ℕ) : Type 0 where
   pub opens : Opens l f

@@ -60,7 +60,7 @@ pub demand_1 : (l : Limits) (f : List ℕ) (a : List ℤ) → Leaves (answer_of 
 demand_1 l f a = by_answer (answer_of l f (length a)) refl
   where
     by_answer : (x : Answer) → answer_of l f (length a) ≡ x → Leaves x a (amounts_after l f a)
-    by_answer (refused k i) e = slices.refusal-leaves l f a e
+    by_answer (refused k i) e = slices.refusal_leaves l f a e
     by_answer (settled n aud nzd resent) e = (slices.has_room l f a e, slices.length-kept l f a e, slices.rest-kept l f a e)
 
 -- ---- the second demand: the answer
@@ -104,7 +104,7 @@ module _ (l : Limits) (f : List ℕ) (a : List ℤ) {n k : ℕ} {aud nzd : ℤ} 
       × (amount ≡ (position_in f i).lots *ℤ (pos w -ℤ pos v))
   amount_by_values =
       let (v, w, p, q, r) = amount_valued (lists_of_file f) (slices.accepted l f a e).passed i (rw (slices.counted l f a e) h) in
-      (v, w, p, q, slices.amount-stands l f a e i h ∙ r)
+      (v, w, p, q, slices.amount_stands l f a e i h ∙ r)
 
   -- 1,000 times the amount lies within the product's accuracy figure times the lots without their sign of 1,000 times lots times the difference
   -- of the exact values.
@@ -119,7 +119,7 @@ module _ (l : Limits) (f : List ℕ) (a : List ℤ) {n k : ℕ} {aud nzd : ℤ} 
   pub demand_3_rise : previous_in f i ≤ final_in f i → (pos 0 ≤ℤ (position_in f i).lots → pos 0 ≤ℤ amount) × ((position_in f i).lots ≤ℤ pos 0 → amount ≤ℤ pos 0)
   demand_3_rise up =
       let (v, w, p, q, r) = amount_by_values in
-      rw (r, difference_is v w (promises.value-rises (mark_in f i).code up p q)) (keeps-above (position_in f i).lots (w - v), keeps_below (position_in f i).lots (w - v))
+      rw (r, difference_is v w (promises.value_rises (mark_in f i).code up p q)) (keeps-above (position_in f i).lots (w - v), keeps_below (position_in f i).lots (w - v))
 
   -- With equal prices it is 0.
   pub demand_3_no_change : previous_in f i ≡ final_in f i → amount ≡ pos 0
@@ -137,7 +137,7 @@ module _ (l : Limits) (f : List ℕ) (a : List ℤ) {n k : ℕ} {aud nzd : ℤ} 
       let inside = mark_in_lem (lists_of_file f) acc.passed i (rw (slices.counted l f a e) h) in
       let same = sym (mark-answer l f (position_in f i).mark acc inside) ∙ said in
       let change : change_in (lists_of_file f) (position_in f i).mark ≡ z = cc in
-      (cc, cc, slices.amount-stands l f a e i h ∙ ap (λ x. (position_in f i).lots *ℤ x) change)
+      (cc, cc, slices.amount_stands l f a e i h ∙ ap (λ x. (position_in f i).lots *ℤ x) change)
 
 -- The file g, which is f with copies of its corrections sent again and is brought into line, is accepted too: N and both totals are those of f,
 -- each amount is the one in the same place for f, and the resent count is that of f plus the copies.
@@ -161,7 +161,7 @@ sent_anywhere (x ∷ xs) ys m (copy n s) = copy n (sent_anywhere xs ys m s)
 pub resent_exists : (f : List ℕ) (ds : List (List ℕ)) (copies n k : ℕ) (aud nzd : ℤ) (a : List ℤ) → answer_of file_limits f (length a) ≡ settled n aud nzd k
     → SentAgain (correction_records f) (correction_records f) ds copies → length ds ≤ file_limits.corrections
     → (g : List ℕ) × Resent f g copies × (correction_records g ≡ ds) × (u32_at g 8 ≤ file_limits.corrections) × (Bytes f → Bytes g)
-resent_exists f ds copies n k aud nzd a = made.resent-exists f ds copies n k aud nzd a
+resent_exists f ds copies n k aud nzd a = made.resent_exists f ds copies n k aud nzd a
 
 -- ---- totals, final prices and the resent count
 
@@ -169,15 +169,15 @@ resent_exists f ds copies n k aud nzd a = made.resent-exists f ds copies n k aud
 pub totals_are_sums : (l : Limits) (f : List ℕ) (a : List ℤ) {n k : ℕ} {aud nzd : ℤ} → answer_of l f (length a) ≡ settled n aud nzd k
     → (aud ≡ sum (λ i. keep_of Aud (currency_of (mark_in f i).code) (get_or (amounts_after l f a) i (pos 0))) n)
     × (nzd ≡ sum (λ i. keep_of Nzd (currency_of (mark_in f i).code) (get_or (amounts_after l f a) i (pos 0))) n)
-totals_are_sums l f a e = (slices.total-stands l f a e Aud, slices.total-stands l f a e Nzd)
+totals_are_sums l f a e = (slices.total_stands l f a e Aud, slices.total_stands l f a e Nzd)
 
 -- The final price is the one that document 01 describes.
 pub final_price-is : (ms : List Mark) (cs : List Correction) (m : ℕ) → FinalPrice ms cs m (final_of ms cs m)
-final_price-is ms cs m = prices.final-price-is ms cs m
+final_price-is ms cs m = prices.final_price-is ms cs m
 
 -- The correction that decides: the highest-numbered of those that name the mark, and none where none names it.
 pub deciding_is : (cs : List Correction) (m : ℕ) → DecidingCorrection cs m (length cs) (highest_of cs m (length cs))
-deciding_is cs m = prices.deciding-is cs m (length cs)
+deciding_is cs m = prices.deciding_is cs m (length cs)
 
 -- In an accepted file:
 module _ (l : Limits) (f : List ℕ) (places : ℕ) {n k : ℕ} {aud nzd : ℤ} (e : answer_of l f places ≡ settled n aud nzd k) where
@@ -185,8 +185,8 @@ module _ (l : Limits) (f : List ℕ) (places : ℕ) {n k : ℕ} {aud nzd : ℤ} 
   pub one_final_price : (m p : ℕ) → FinalPrice (lists_of_file f).marks (lists_of_file f).corrections m p → p ≡ final_of (lists_of_file f).marks (lists_of_file f).corrections m
   one_final_price m p d =
       let ls = lists_of_file f in
-      prices.one-final ls.marks ls.corrections
-      (corrections.apart ls.marks ls.positions ls.corrections (settled_accepted l f places e).passed) m d (prices.final-price-is ls.marks ls.corrections m)
+      prices.one_final ls.marks ls.corrections
+      (corrections.apart ls.marks ls.positions ls.corrections (settled_accepted l f places e).passed) m d (prices.final_price-is ls.marks ls.corrections m)
 
   -- A correction with the highest number of those that name its mark decides, wherever it stands; where none names it, today's price stands.
   pub highest_decides : (k : ℕ) → k < length (lists_of_file f).corrections
@@ -204,9 +204,9 @@ module _ (l : Limits) (f : List ℕ) (places : ℕ) {n k : ℕ} {aud nzd : ℤ} 
       → final_of (lists_of_file f).marks ds ≡ final_of (lists_of_file f).marks (lists_of_file f).corrections
   same-corrections-same_prices ds to back =
       let ls = lists_of_file f in
-      sym (prices.same-finals ls.marks ls.corrections ds to back (corrections.apart ls.marks ls.positions ls.corrections (settled_accepted l f places e).passed))
+      sym (prices.same_finals ls.marks ls.corrections ds to back (corrections.apart ls.marks ls.positions ls.corrections (settled_accepted l f places e).passed))
 
 -- The resent count and the number of different numbers, which are all below top, make up the length of the list.
 pub resent_and_different : (cs : List Correction) (top : ℕ) → ((i : ℕ) → i < length cs → (correction_at cs i).number < top)
     → count (λ v. some (λ i. eqb v (correction_at cs i).number) (length cs)) top + resent_of cs ≡ length cs
-resent_and_different cs top below = counting.different-and-repeated (λ i. (correction_at cs i).number) top (length cs) below
+resent_and_different cs top below = counting.different_and_repeated (λ i. (correction_at cs i).number) top (length cs) below

@@ -16,7 +16,7 @@ use Rattle.settlement.specs.ContractValue.{value_or_zero}
 use Rattle.numbers.proofs.Truth.{not_both}
 
 by_answer : (a : Code) (p : ℕ) (x : Answer) → value_of a p ≡ x → or_zero x ≤ value_cap
-by_answer a p (given n) e = pricing.value-cap a p e
+by_answer a p (given n) e = pricing.value_cap_lem a p e
 by_answer a p (refused k i) e = omega arith
 
 pub value_bound : (a : Code) (p : ℕ) → value_or_zero a p ≤ value_cap
@@ -34,7 +34,7 @@ unfolding listed tick_of
 valued a p h low on = by_found (find a) refl h on
   where
     by_found : (o : NamedProduct) → find a ≡ o → listed_in o ≡ true → p % tick_in o ≡ 0 → (n : ℕ) × (value_of a p ≡ given n)
-    by_found (Named product) e h on = (_, pricing.value-given a e low on)
+    by_found (Named product) e h on = (_, pricing.value_given a e low on)
     by_found Missing e h on = not_both h refl
 
 pub value_or_zero-is : (a : Code) (p : ℕ) {n : ℕ} → value_of a p ≡ given n → value_or_zero a p ≡ n

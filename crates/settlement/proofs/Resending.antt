@@ -70,16 +70,16 @@ module _ (l : Limits) (f g : List ℕ) (copies p q : ℕ) (r : Resent f g copies
   in_line =
       let h = acc.opens in
       let m = r.mark-count in
-      let c = r.correction-count in
-      let n = r.position-count in
+      let c = r.correction_count in
+      let n = r.position_count in
       record {
         header = omega (arith, h.header, r.file-length);
-        marks_fit = omega (arith, h.marks-fit);
+        marks_fit = omega (arith, h.marks_fit);
         corrections_fit = fits;
-        positions_fit = omega (arith, h.positions-fit);
-        marks-at = r.marks-offset ∙ h.marks-at;
-        corrections-at = omega (arith, r.corrections-offset, h.corrections-at);
-        positions-at = omega (arith, r.positions-offset, h.positions-at);
+        positions_fit = omega (arith, h.positions_fit);
+        marks-at = r.marks_offset ∙ h.marks-at;
+        corrections-at = omega (arith, r.corrections_offset, h.corrections-at);
+        positions-at = omega (arith, r.positions_offset, h.positions-at);
         ends_at = omega (arith, r.file-length, h.ends_at);
       }
 

@@ -63,7 +63,7 @@ module _ (ls : Lists) (passed : decision_of (record_checks ls) ≡ Unmet) where
 
     -- the value at a price that is allowed
     has_value : (p : ℕ) → Allowed (mark_at ls.marks m) p → (n : ℕ) × (value_of (mark_at ls.marks m).code p ≡ given n)
-    has_value p a = valued (mark_at ls.marks m).code p code-listed a.low a.on-tick
+    has_value p a = valued (mark_at ls.marks m).code p code-listed a.low a.on_tick
 
     previous_value : (n : ℕ) × (value_of (mark_at ls.marks m).code (mark_at ls.marks m).previous ≡ given n)
     previous_value = has_value _ previous_allowed

@@ -11,8 +11,8 @@ pub returns-in-Settled : goal.returns-in-Settled
 returns-in-Settled c =
     let a = c.cents in
     let n = c.cents-in-Settled in
-    let aud = to_z-of_z {w = w64} {z = a.result} (record { sfits = a.type-inv }) ∙ a.ensures in
-    let nzd = to_z-of_z {w = w64} {z = n.result} (record { sfits = n.type-inv }) ∙ n.ensures in
+    let aud = to_z-of_z {w = w64} {z = a.result} (record { sfits = a.type_inv }) ∙ a.ensures in
+    let nzd = to_z-of_z {w = w64} {z = n.result} (record { sfits = n.type_inv }) ∙ n.ensures in
     rw (aud, nzd) (sym (ap (λ s. outcome_of (said s)) c.in-Settled.is))
 
 pub returns-in-Refused : goal.returns-in-Refused

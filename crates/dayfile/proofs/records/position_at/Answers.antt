@@ -12,5 +12,5 @@ returns c =
     let a = c.args in
     let e = c.raw_position_at-raw.ensures in
     let lots = c.as_signed in
-    position_by (ap (λ (w : RawPosition). w.account) e) (ap (λ (w : RawPosition). w.mark) e) (back lots.result lots.type-inv ∙ lots.ensures ∙ ap (λ (w : RawPosition). signed w.lots) e)
+    position_by (ap (λ (w : RawPosition). w.account) e) (ap (λ (w : RawPosition). w.mark) e) (back lots.result lots.type_inv ∙ lots.ensures ∙ ap (λ (w : RawPosition). signed w.lots) e)
     ∙ as_signed_position a.s.now a.i

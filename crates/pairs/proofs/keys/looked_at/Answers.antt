@@ -8,7 +8,7 @@ pub nonzero_div-records : goal.nonzero_div-records
 nonzero_div-records c = omega (arith, width_pos c.args.key, c.width.ensures)
 
 pub returns-then-size-width : goal.returns-then-size-width
-returns-then-size-width c = looked-none _ _ _ (rw c.width.ensures at c.if-size-width.taken)
+returns-then-size-width c = looked-none _ _ _ (rw c.width.ensures at c.if-size-width.true)
 
 pub returns-else-size-width : goal.returns-else-size-width
-returns-else-size-width c = looked-some _ _ _ (rw c.width.ensures at c.if-size-width.left) c.smaller.ensures
+returns-else-size-width c = looked-some _ _ _ (rw c.width.ensures at c.if-size-width.false) c.smaller.ensures

@@ -10,5 +10,5 @@ unfolding total_line
 returns c =
     let aud = c.cents in
     let nzd = c.cents-2 in
-    writes_then (rw (back aud.result aud.type-inv ∙ aud.ensures) at c.write_total-nzd_at.ensures)
-    (rw (back nzd.result nzd.type-inv ∙ nzd.ensures) at c.write_total.ensures)
+    writes_then (rw (back aud.result aud.type_inv ∙ aud.ensures) at c.write_total-nzd_at.ensures)
+    (rw (back nzd.result nzd.type_inv ∙ nzd.ensures) at c.write_total.ensures)

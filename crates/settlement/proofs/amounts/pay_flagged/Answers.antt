@@ -26,8 +26,8 @@ paid : (c : tie.After-times invariant-loop decreases-loop) → to_z w64 (of_z w6
     (entry_of c.before.before.before.before.before.before.before.before.args.a.now) c.before.before.before.before.before.loop.i
 paid c =
     let g = c.before.before.before.before.before.before.before.before.requires.0 in
-    back c.times.result c.times.type-inv
-    ∙ amount_gives _ _ g.0 g.1 _ (omega (arith, c.before.before.before.before.loop-test.true, c.before.before.before.before.before.before.position-count.ensures))
+    back c.times.result c.times.type_inv
+    ∙ amount_gives _ _ g.0 g.1 _ (omega (arith, c.before.before.before.before.loop-test.true, c.before.before.before.before.before.before.position_count.ensures))
     c.before.before.before.position_at.ensures c.times.ensures
 
 pub loop-i-init : goal.loop-i-init

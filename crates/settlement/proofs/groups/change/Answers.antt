@@ -14,5 +14,5 @@ difference-requires c = ((by_value_or_zero _ _ c.value_or_zero-last.ensures).1, 
 pub returns : goal.returns
 returns c =
     let a = c.args in
-    change_by (marks_in a.marks.now) (last_of a.finals.now) a.i (back c.difference.result c.difference.type-inv ∙ c.difference.ensures)
+    change_by (marks_in a.marks.now) (last_of a.finals.now) a.i (back c.difference.result c.difference.type_inv ∙ c.difference.ensures)
     (by_value_or_zero _ _ c.value_or_zero-last.ensures).0 (by_value_or_zero _ _ c.value_or_zero-previous.ensures).0 refl c.mark_at-m.ensures

@@ -13,5 +13,5 @@ difference-requires c = ((by_value_or_zero _ _ c.value_or_zero.ensures).1, (by_v
 
 pub returns : goal.returns
 returns c =
-    by_two (λ (x y : ℕ). pos x -ℤ pos y) (back c.difference.result c.difference.type-inv ∙ c.difference.ensures)
+    by_two (λ (x y : ℕ). pos x -ℤ pos y) (back c.difference.result c.difference.type_inv ∙ c.difference.ensures)
     (by_value_or_zero _ _ c.value_or_zero.ensures).0 (by_value_or_zero _ _ c.value_or_zero-2.ensures).0

@@ -39,4 +39,4 @@ bounds-a-i c = let s = c.requires in le_trans s.0.0 s.0.1
 pub returns : goal.returns
 returns c =
     works_one (changes_of (marks_in c.args.marks.now) (last_of c.args.finals.now)) (le_trans c.requires.0.0 c.requires.0.1)
-    (back c.change.result c.change.type-inv ∙ c.change.ensures ∙ sym (change_at (marks_in c.args.marks.now) (last_of c.args.finals.now) c.args.i (rw (← c.requires.1) c.requires.0.0)))
+    (back c.change.result c.change.type_inv ∙ c.change.ensures ∙ sym (change_at (marks_in c.args.marks.now) (last_of c.args.finals.now) c.args.i (rw (← c.requires.1) c.requires.0.0)))

@@ -27,7 +27,7 @@ loop-k-preserved c =
     let l = c.loop-k in
     let at = l.invariant in (
       omega arith,
-      set_more a.t1 (lanes_change a.t2) a.a.now l.k at.1 (back c.difference.result c.difference.type-inv ∙ c.difference.ensures),
+      set_more a.t1 (lanes_change a.t2) a.a.now l.k at.1 (back c.difference.result c.difference.type_inv ∙ c.difference.ensures),
       set_more a.t1 (λ j. true) a.done.now l.k at.2 refl,
     )
 

@@ -26,4 +26,4 @@ returns c =
     let h : a.m < length ms = omega (arith, c.mark_count.ensures, c.if-mark_count-m.false) in
     rw (lt-leb _ _ h)
     (mark-priced ms cs a.m d.corrected d.number d.price c.mark_at-mark.ensures c.highest-d.ensures c.last_price-last.ensures
-    (back c.change_between-change.result c.change_between-change.type-inv ∙ c.change_between-change.ensures))
+    (back c.change_between-change.result c.change_between-change.type_inv ∙ c.change_between-change.ensures))

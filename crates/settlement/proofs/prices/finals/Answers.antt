@@ -31,7 +31,7 @@ loop-k-preserved c =
       rw w.5 (simp length-set at.invariant.1),
       rw w.6 (simp length-set at.invariant.2),
       rw (w.5, w.6)
-          (standing_more ms cs at.k e w.0.taken (rw at.invariant.2 c.requires.0) (rw at.invariant.1 c.requires.0) at.invariant.3 w.1.ensures w.3.ensures w.4.ensures),
+          (standing_more ms cs at.k e w.0.true (rw at.invariant.2 c.requires.0) (rw at.invariant.1 c.requires.0) at.invariant.3 w.1.ensures w.3.ensures w.4.ensures),
     ))
     (λ w. (omega arith, rw w.1 at.invariant.1, rw w.2 at.invariant.2, rw (w.1, w.2) (standing_same ms cs at.k e w.0.left at.invariant.3)))
     c.if-m-n.branch

@@ -14,17 +14,17 @@ use Rattle.settlement.proofs.settling.settle_accepted.Goals as goal
 
 pub changes-requires : goal.changes-requires
 unfolding blank
-changes-requires c = (c.requires.0.lists-pass.lists-within.marks, refl)
+changes-requires c = (c.requires.0.lists_pass.lists_within.marks, refl)
 
 pub pay-sums-requires : goal.pay-sums-requires
 pay-sums-requires c =
     let bound = bounded_as (marks_in c.args.marks.now) (final_of (marks_in c.args.marks.now) (corrections_in c.args.corrections.now)) c.changes.ensures in
-    (((payable _ c.requires.0.lists-pass, named _ c.requires.0.lists-pass), bound), c.requires.1)
+    (((payable _ c.requires.0.lists_pass, named _ c.requires.0.lists_pass), bound), c.requires.1)
 
 pub returns : goal.returns
 returns c =
     let passing = c.requires.0 in
-    let acc = passing.lists-pass in
+    let acc = passing.lists_pass in
     let q = c.changes.ensures in
     let p = c.pay-sums in
     let e = p.ensures in
