@@ -1,5 +1,7 @@
 // Settles the stored day files of data/, and prints the answer to each under the name of its file.
 // tests/cases.py wrote the files and works out the same text by itself.
+#![tactic(auto)]
+
 mod amounts;
 
 use amounts::{UNTOUCHED, digest, untouched};

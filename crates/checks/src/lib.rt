@@ -1,4 +1,6 @@
 // The checks that a day file must pass to be settled: a part for each section, and all of them over a whole file.
+#![tactic(auto)]
+
 mod clashes;
 mod corrections;
 mod finding;

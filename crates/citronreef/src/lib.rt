@@ -1,4 +1,6 @@
 // The functions that C and Rust call: numbers and slices in, one struct of numbers out. include/citronreef.h declares them.
+#![tactic(auto)]
+
 ghost use Rattle.std.specs.Prelude.{◌≡◌, cond, length};
 ghost use Rattle.pricing.specs.Calls.{said, value_of, tick_value_of, bracket_of};
 ghost use Rattle.report.specs.Sheet.{sheet_within, amounts_within};

@@ -1,4 +1,6 @@
 // The day file: its layout and its records.
+#![tactic(auto)]
+
 mod bytes;
 mod file;
 mod records;

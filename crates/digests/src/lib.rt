@@ -1,4 +1,6 @@
 // A digest: one number for a long list of numbers. Another number in any one place makes another digest, as long as all are below PRIME.
+#![tactic(auto)]
+
 ghost use Rattle.std.specs.Prelude.{◌≡◌};
 ghost use Rattle.digests.specs.Digest.{digest_with};
 

@@ -1,5 +1,7 @@
 // What carries no word of the trade: numbers in bytes, the answer of a search, and of a search by several conditions in their order.
 // The laws are in proofs/.
+#![tactic(auto)]
+
 ghost use Rattle.std.specs.Prelude.{◌≡◌, if◌then◌else◌};
 ghost use Rattle.numbers.specs.Folds.{or_else, is_some};
 ghost use Rattle.numbers.specs.declared.Found.TheVariants.{At, Nothing};

@@ -1,5 +1,7 @@
 // Which earlier record has the same key. A list of records is lent as bytes; the key of a record is the number that its first four or
 // eight bytes make.
+#![tactic(auto)]
+
 mod first;
 mod keys;
 mod lists;

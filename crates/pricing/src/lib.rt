@@ -1,4 +1,6 @@
 // One ASX 24 rate futures contract: its value in cents, its tick value and a bond's bracket.
+#![tactic(auto)]
+
 mod contract;
 mod ladder;
 mod lanes;

@@ -1,4 +1,6 @@
 // The product table: codes, terms, currencies, ticks and months.
+#![tactic(auto)]
+
 mod table;
 
 pub use table::{

@@ -1,4 +1,6 @@
 // The sheet of a day file, as text in a lent buffer.
+#![tactic(auto)]
+
 mod answers;
 mod fields;
 mod positions;

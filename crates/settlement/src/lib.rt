@@ -1,4 +1,6 @@
 // The settlement of a day file: final prices, amounts and totals.
+#![tactic(auto)]
+
 mod amounts;
 mod cents;
 mod groups;

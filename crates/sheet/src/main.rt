@@ -1,4 +1,6 @@
 // Reads a day file from standard input and prints its settlement sheet, once the whole file is judged.
+#![tactic(auto)]
+
 mod input;
 
 use dayfile::DayFile;

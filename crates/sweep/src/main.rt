@@ -1,5 +1,7 @@
 // Prints the answers of `pricing` for many codes and prices: lines to read, and digests of all answers.
 // tests/sweep.py works out the same text by itself.
+#![tactic(auto)]
+
 mod digest;
 mod lines;
 

@@ -1,5 +1,7 @@
 // Text written into a lent buffer, from its start on. Each function answers how many bytes it wrote; where the buffer has no room for the
 // whole text, it writes nothing and answers 0.
+#![tactic(auto)]
+
 mod copying;
 mod decimal;
 
