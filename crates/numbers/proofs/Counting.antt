@@ -1,5 +1,5 @@
 -- How many of n numbers are different, and how many repeat an earlier one: together they are n.
-use Rattle.std.proofs.Common.{◌≡◌, ℕ, zero, suc, ◌+◌, ◌<◌, ◌≤◌, Bool, true, false, cond, eqb, refl, not-suc-le-zero, arith, eq-eqb, ne_eqb, eqb-true}
+use Rattle.std.proofs.Common.{◌≡◌, ℕ, zero, suc, ◌+◌, ◌<◌, ◌≤◌, Bool, true, false, cond, ◌||◌, eqb, refl, ap, ◌∙◌, not-suc-le-zero, arith, eq-eqb, ne_eqb, eqb-true}
 use mathlib.Core.Bool.{or-false}
 use borrow.Author.Tests.{eqb-false}
 use Rattle.numbers.specs.Folds.{some, count}
@@ -46,10 +46,10 @@ module _ (number : ℕ → ℕ) where
           rw (count_same top (bears n) (bears (suc n)) (λ v l. at_all v (eqb v (number n)) refl)) (omega arith)
         where
           at_all : (v : ℕ) (b : Bool) → eqb v (number n) ≡ b → bears (suc n) v ≡ bears n v
-          at_all v true q = rw (eqb-true v (number n) q, e)
+          at_all v true q = let t : bears n v ≡ true = ap (bears n) (eqb-true v (number n) q) ∙ e in rw t
           at_all v false q = other v (eqb-false v (number n) q)
       go false e =
-          rw (count_one_more top (bears n) (bears (suc n)) (number n) h e (rw (e, eq-eqb (number n) (number n) refl)) other) (omega arith)
+          rw (count_one_more top (bears n) (bears (suc n)) (number n) h e (ap (λ b. bears n (number n) || b) (eq-eqb (number n) (number n) refl) ∙ rw e) other) (omega arith)
 
   pub different_and_repeated : (top n : ℕ) → ((i : ℕ) → i < n → number i < top) → count (bears n) top + count (λ i. bears i (number i)) n ≡ n
   unfolding some

@@ -12,4 +12,4 @@ overflow_sub-result c =
 pub returns : goal.returns
 returns c =
     let w = c.wrapping_add_u32.result in
-    to_z-of_z ((let w = c.wrapping_add_u32.result in rw (plain w (omega arith)) (fits _ (omega (arith, size_sub (pos w) (pos 2147483648)))))) ∙ rw (plain w (omega arith)) (shifted_back c.args.u (omega arith) c.wrapping_add_u32.ensures)
+    to_z-of_z (overflow_sub-result c) ∙ rw (plain w (omega arith)) (shifted_back c.args.u (omega arith) c.wrapping_add_u32.ensures.value)
