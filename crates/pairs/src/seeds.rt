@@ -95,7 +95,7 @@ pub(crate) fn seed_of(
     turn: u64,
 ) -> u64
     requires { (Keyed key size records.now n) × (Rising n m (at list.now)) × (m ≤ length list.now) }
-    ensures* { ⊤ₛ }
+    ensures { Unit {0} }
 {
     let mut mix = Mix {
         a: START_A ^ turn,

@@ -41,7 +41,7 @@ loop-i-preserved c =
     let at = c.loop-i in
     let ms = marks_in c.args.marks.now in
     let l = c.faults-of_mark.ensures ∙ ap mark_faults c.mark_at.ensures in
-    let h : at.i < length at.ticks = omega (arith, (omega ( arith, c.loop-i-test.true, c.mark_count-n.ensures, c.requires.0, )), at.invariant.0.1) in (
+    let h : at.i < length at.ticks = omega (arith, c.loop-i-test.true, c.mark_count-n.ensures, c.requires.0, at.invariant.0.1) in (
       (omega arith, simp length-set at.invariant.0.1),
       some_next (λ k. any_mark_fault (mark_faults (mark_at ms k))) at.i at.invariant.1 (c.any_fault-bad.ensures ∙ ap any_mark_fault l),
       filled_more h (ap (λ (x : MarkFaults). x.tick) l) at.invariant.2,

@@ -2,4 +2,4 @@ use Rattle.std.proofs.Common.{rules}
 use Rattle.checks.proofs.positions.faults.Goals as goal
 
 pub returns : goal.returns
-returns c = rw c.wrapping_add_u32-moved.ensures
+returns c = rw c.wrapping_add_u32-moved.ensures.value

@@ -5,14 +5,14 @@ use Rattle.pairs.proofs.Records.{key_here}
 use Rattle.pairs.proofs.Rooms.{record_ends}
 use Rattle.pairs.proofs.keys.key_at.Goals as goal
 
-part-key-of-end : tie.Need-slice-bounds-key-of-end
-part-key-of-end c = omega (arith, record_ends _ _ _ c.before.requires.1)
-
 pub overflow_mul-at : goal.overflow_mul-at
 overflow_mul-at c = omega (arith, record_ends _ _ _ c.requires.1)
 
 pub overflow_add-end : goal.overflow_add-end
 overflow_add-end c = omega (arith, record_ends _ _ _ c.requires.1)
+
+pub slice_bounds-key_of-end : goal.slice_bounds-key_of-end
+slice_bounds-key_of-end c = omega (arith, record_ends _ _ _ c.requires.1)
 
 pub returns : goal.returns
 returns c = c.key_of.ensures ∙ rw add-sub_cancel_left (sym (key_here _ _ _ _ c.requires.1))

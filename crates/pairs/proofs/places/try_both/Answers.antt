@@ -27,7 +27,7 @@ pub repeats_at-requires : goal.repeats_at-requires
 repeats_at-requires c =
     let p = c.requires in
     let q = rw c.in-Differs.is at c.try_at.ensures in
-    (p.0, λ a. rw q.0 (p.3 a), rw c.place_of-first.ensures (place-below _ _ _ p.5 c.place-1.given), rw c.place_of-second.ensures (place-below _ _ _ p.5 c.place-1.given), q.1)
+    (p.0, λ a. rw q.0 (p.3 a), rw c.place_of-first.ensures (place-below _ _ _ p.5 c.try_at.auto.place), rw c.place_of-second.ensures (place-below _ _ _ p.5 c.try_at.auto.place), q.1)
 
 pub returns-then-repeats_at : goal.returns-then-repeats_at
 returns-then-repeats_at c =
@@ -38,7 +38,7 @@ pub stay_or_list-requires : goal.stay_or_list-requires
 stay_or_list-requires c =
     let p = c.requires in
     let q = rw c.in-Differs.is at c.try_at.ensures in
-    (rw c.place_of-second.ensures (place-below _ _ _ p.5 c.place-1.given), p.6, p.7, p.2, λ a. rw q.0 (p.4 a))
+    (rw c.place_of-second.ensures (place-below _ _ _ p.5 c.try_at.auto.place), p.6, p.7, p.2, λ a. rw q.0 (p.4 a))
 
 pub returns : goal.returns
 returns c =

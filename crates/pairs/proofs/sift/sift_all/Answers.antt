@@ -15,17 +15,17 @@ loop-turns-init c = (refl, refl, c.sift_once-s.ensures)
 
 pub to_sift-all-requires : goal.to_sift-all-requires
 to_sift-all-requires c =
-    let p = c.requires in (omega (arith, p.1, c.loop-turns.invariant.0, c.list-1.given), p.0.few)
+    let p = c.requires in (omega (arith, p.1, c.loop-turns.invariant.0, c.sift_once-s.auto.list), p.0.few)
 
 pub sift_anew-anew-requires : goal.sift_anew-anew-requires
 sift_anew-anew-requires c =
     let p = c.requires in
     let l = c.loop-turns in
     let w = c.to_sift-all.ensures.sifts _ l.invariant.2 in
-    let as_many = l.invariant.1 ∙ c.place-1.given in (
+    let as_many = l.invariant.1 ∙ c.sift_once-s.auto.place in (
       p.0,
       w.listed,
-      omega (arith, w.fewer, p.1, l.invariant.0, c.list-1.given, c.list-in-loop-turns-1.given),
+      omega (arith, w.fewer, p.1, l.invariant.0, c.sift_once-s.auto.list, c.to_sift-all.auto.list),
       w.fewer,
       places_as as_many p.2,
       sixteenth_as as_many p.4,
@@ -45,16 +45,16 @@ pub loop-turns-preserved : goal.loop-turns-preserved
 loop-turns-preserved c =
     let l = c.loop-turns in
     let w = c.to_sift-all.ensures.sifts _ l.invariant.2 in (
-      c.list-in-loop-turns-2-1.given ∙ c.list-in-loop-turns-1.given ∙ l.invariant.0,
-      c.place-in-loop-turns-1.given ∙ l.invariant.1,
+      c.sift_anew-anew.auto.list ∙ c.to_sift-all.auto.list ∙ l.invariant.0,
+      c.sift_anew-anew.auto.place ∙ l.invariant.1,
       λ q. rw c.smaller.ensures (sifts-sifts w (c.sift_anew-anew.ensures q)),
     )
 
 pub shape_of-list : goal.shape_of-list
-shape_of-list c = c.loop-turns.invariant.0 ∙ c.list-1.given
+shape_of-list c = c.loop-turns.invariant.0 ∙ c.sift_once-s.auto.list
 
 pub shape_of-place : goal.shape_of-place
-shape_of-place c = c.loop-turns.invariant.1 ∙ c.place-1.given
+shape_of-place c = c.loop-turns.invariant.1 ∙ c.sift_once-s.auto.place
 
 pub returns : goal.returns
 returns c = c.loop-turns.invariant.2

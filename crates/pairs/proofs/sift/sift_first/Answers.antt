@@ -43,8 +43,8 @@ loop-i-preserved c =
     let h = c.loop-i-test.true in
     let q = rw c.in-Left.is at c.try_both.ensures in (
       omega (arith, h),
-      c.list-1.given ∙ l.invariant.1,
-      c.place-1.given ∙ l.invariant.2,
+      c.try_both.auto.list ∙ l.invariant.1,
+      c.try_both.auto.place ∙ l.invariant.2,
       tried l.invariant.3 refl (spot_below _ p.2 l.invariant.2) (omega (arith, p.1, h, l.invariant.1, l.invariant.3.fewer)) (λ u k. k) q,
     )
 

@@ -47,8 +47,8 @@ loop-t-preserved c =
     let is = c.wide-i.ensures ∙ l.invariant.4 l.t (omega arith) in
     let q = rw c.in-Left.is at c.try_both.ensures in (
       omega (arith, h),
-      c.list-1.given ∙ l.invariant.1,
-      c.place-1.given ∙ l.invariant.2,
+      c.try_both.auto.list ∙ l.invariant.1,
+      c.try_both.auto.place ∙ l.invariant.2,
       tried l.invariant.3 is (spot_below _ p.4 l.invariant.2) (omega (arith, p.2, h, l.invariant.1, l.invariant.3.fewer)) (λ u k. p.1.rising u l.t k h) q,
       ahead l.invariant.3.fewer l.invariant.4 q,
     )

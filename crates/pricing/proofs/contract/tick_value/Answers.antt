@@ -31,8 +31,7 @@ overflow_add-next c = omega (arith, allowed _ _ c.check.ensures c.in-Product.is)
 pub returns-then-next-gt-PRICE_LIMIT : goal.returns-then-next-gt-PRICE_LIMIT
 unfolding tick_value_of price_limit
 returns-then-next-gt-PRICE_LIMIT c =
-    let x = c.terms-1.given in
-    above c.args.p x.0.0 x.0.1.0 c.if-next-gt-PRICE_LIMIT.true ∙ by_checked _ _ c.check.ensures (answer _) x.1
+    above c.args.p c.in-Product.terms c.in-Product.tick c.if-next-gt-PRICE_LIMIT.true ∙ by_checked _ _ c.check.ensures (answer _) c.in-Product.is
 
 pub two_at-v-requires : goal.two_at-v-requires
 unfolding price_limit
@@ -47,10 +46,9 @@ overflow_sub-result c = let v = c.two_at-v.ensures in rw (v.0, v.1) (value_by_ri
 pub returns-else-next-gt-PRICE_LIMIT : goal.returns-else-next-gt-PRICE_LIMIT
 unfolding tick_value_of price_limit
 returns-else-next-gt-PRICE_LIMIT c =
-    let x = c.terms-1.given in
     let v = c.two_at-v.ensures in
     rw (v.0, v.1)
-    (within c.args.p x.0.0 x.0.1.0 c.if-next-gt-PRICE_LIMIT.false ∙ by_checked _ _ c.check.ensures (answer _) x.1)
+    (within c.args.p c.in-Product.terms c.in-Product.tick c.if-next-gt-PRICE_LIMIT.false ∙ by_checked _ _ c.check.ensures (answer _) c.in-Product.is)
 
 pub returns-in-Refused : goal.returns-in-Refused
 unfolding tick_value_of

@@ -17,10 +17,10 @@ pub loop-i-preserved : goal.loop-i-preserved
 loop-i-preserved c =
     let at = c.loop-i in
     let a = c.args in
-    (omega arith, some_next (λ k. is_failed (price_checked a.tick (get_or a.t2 k 0))) at.i at.invariant.1 c.fails-bad.ensures)
+    (omega arith, some_next (λ k. is_failed (price_checked a.tick (get_or a.p k 0))) at.i at.invariant.1 c.fails-bad.ensures)
 
 pub returns : goal.returns
 returns c =
     let at = c.loop-i in
     let a = c.args in
-    at-end (some (λ k. is_failed (price_checked a.tick (get_or a.t2 k 0)))) at.invariant.1 at.invariant.0 c.loop-i-test.false
+    at-end (some (λ k. is_failed (price_checked a.tick (get_or a.p k 0)))) at.invariant.1 at.invariant.0 c.loop-i-test.false

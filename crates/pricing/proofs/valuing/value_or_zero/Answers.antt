@@ -13,9 +13,8 @@ value_if_passed-requires c = (modest_line _ c.lookup.ensures c.in-Named.is).term
 pub returns-in-Named : goal.returns-in-Named
 unfolding value_of
 returns-in-Named c =
-    let q = c.product-1.given in
     let p = c.args.p in
-    rw (← c.lookup.ensures, q.1) (c.value_if_passed.ensures ∙ value_if_passed-is q.0.0.terms q.0.0.tick p)
+    rw (← c.lookup.ensures, c.in-Named.is) (c.value_if_passed.ensures ∙ value_if_passed-is c.in-Named.product.terms c.in-Named.product.tick p)
 
 pub returns-in-Missing : goal.returns-in-Missing
 unfolding value_of

@@ -10,8 +10,7 @@ values_by-requires c = (modest_line _ c.lookup.ensures c.in-Named.is).terms
 pub returns-in-Named : goal.returns-in-Named
 returns-in-Named c =
     let a = c.args in
-    let q = c.product-1.given in
-    values_are a.code a.p c.lookup.ensures q.0.0 q.1 (search rules) c.values_by.ensures
+    values_are a.code a.p c.lookup.ensures c.in-Named.product c.in-Named.is (search rules) c.values_by.ensures
 
 pub returns-in-Missing : goal.returns-in-Missing
 returns-in-Missing c = no_values c.args.code c.args.p c.lookup.ensures c.in-Missing.is

@@ -49,7 +49,7 @@ pub write_first-requires : goal.write_first-requires
 write_first-requires c = (omega arith, c.loop-rest.invariant.2.place, omega arith)
 
 pub shape_of-out : goal.shape_of-out
-shape_of-out c = c.write_first.auto.1.1.1.0 ∙ c.loop-rest.invariant.0
+shape_of-out c = c.write_first.auto.out ∙ c.loop-rest.invariant.0
 
 pub returns : goal.returns
 returns c =

@@ -10,9 +10,6 @@ use mathlib.Core.List.{[], ◌∷◌, ◌++◌}
 use borrow.Author.Rules.{rules}
 use Rattle.text.proofs.decimal.write_with_sign.Goals as goal
 
-part-write-digits-start : tie.Need-slice-bounds-write-digits-start
-part-write-digits-start c = simp length-set (omega arith)
-
 pub overflow_add-s : goal.overflow_add-s
 overflow_add-s c = omega (arith, decimal_64 c.ranges.size)
 
@@ -25,6 +22,9 @@ bounds-out-0 c = omega (arith, some-digit c.args.size)
 
 pub slice_bounds-write_digits-count : goal.slice_bounds-write_digits-count
 slice_bounds-write_digits-count c = simp length-set (omega arith)
+
+pub slice_bounds-write_digits-start : goal.slice_bounds-write_digits-start
+slice_bounds-write_digits-start c = simp length-set (omega arith)
 
 pub write_digits-requires : goal.write_digits-requires
 write_digits-requires c = (c.width-k.ensures, simp (length-take, length-drop, length-set) (omega arith))
