@@ -1,4 +1,4 @@
-use Prim.Native.Nat.{◌≤◌, ◌-◌}
+use Prim.Native.Nat.{◌<◌, ◌≤◌, ◌-◌}
 use mathlib.Core.Path.{◌≡◌, refl}
 use mathlib.Core.Bool.{false}
 use native.Mathlib.Omega.{arith}
@@ -29,7 +29,7 @@ loop-m-smaller c = omega arith
 pub loop-m-preserved : goal.loop-m-preserved
 loop-m-preserved c =
     let at = c.loop-m in
-    let few = (omega (arith, c.mark_count-n.ensures, c.requires)) in (
+    let few : at.m < file_limits.marks = omega (arith, c.mark_count-n.ensures, c.requires, c.loop-m-test.true) in (
       omega arith,
       simp length-set at.invariant.1,
       filled_more (rw at.invariant.1 few)

@@ -20,16 +20,6 @@ use Rattle.settlement.proofs.Shares.{Summed, summed_more, summed_in}
 use borrow.Author.Rules.{rules}
 use Rattle.settlement.proofs.amounts.pay_flagged.Goals as goal
 
--- the amount that was worked
-paid : (c : tie.After-times invariant-loop decreases-loop) → to_z w64 (of_z w64 c.times.result)
-    ≡ amount_of (positions_in c.before.before.before.before.before.before.before.before.args.positions.now)
-    (entry_of c.before.before.before.before.before.before.before.before.args.a.now) c.before.before.before.before.before.loop.i
-paid c =
-    let g = c.before.before.before.before.before.before.before.before.requires.0 in
-    back c.times.result c.times.type_inv
-    ∙ amount_gives _ _ g.0 g.1 _ (omega (arith, c.before.before.before.before.loop-test.true, c.before.before.before.before.before.before.position_count.ensures))
-    c.before.before.before.position_at.ensures c.times.ensures
-
 pub loop-i-init : goal.loop-i-init
 loop-i-init c = (search rules, refl, record { aud = refl; nzd = refl })
 
@@ -67,10 +57,13 @@ bounds-nzd-m c = (let g = c.requires.0 in mark_fits _ _ g.0 g.1 _ (omega (arith,
 
 pub add-s-requires : goal.add-s-requires
 add-s-requires c =
+    let paid : to_z w64 (of_z w64 c.times-x.result) ≡ amount_of (positions_in c.args.positions.now) (entry_of c.args.a.now) c.loop-i.i =
+        back c.times-x.result c.times-x.type_inv
+        ∙ amount_gives _ _ c.requires.0.0 c.requires.0.1 _ (omega (arith, c.loop-i-test.true, c.position_count-count.ensures)) c.position_at-p.ensures c.times-x.ensures in
     let at = c.loop-i in
     let q = c.position_count-count.ensures in
     let g = c.requires.0 in
-    let x = small_as (paid c.before) (amount-small _ _ g.0 g.1 at.i (omega (arith, q, c.loop-i-test.true))) in
+    let x = small_as paid (amount-small _ _ g.0 g.1 at.i (omega (arith, q, c.loop-i-test.true))) in
     summed_in _ _ _ g.0 g.1 (omega (arith, q, at.invariant.0)) at.invariant.2 x
 
 pub overflow_add-i : goal.overflow_add-i
@@ -87,10 +80,13 @@ loop-i-smaller c = omega arith
 
 pub loop-i-preserved : goal.loop-i-preserved
 loop-i-preserved c =
+    let paid : to_z w64 (of_z w64 c.times-x.result) ≡ amount_of (positions_in c.args.positions.now) (entry_of c.args.a.now) c.loop-i.i =
+        back c.times-x.result c.times-x.type_inv
+        ∙ amount_gives _ _ c.requires.0.0 c.requires.0.1 _ (omega (arith, c.loop-i-test.true, c.position_count-count.ensures)) c.position_at-p.ensures c.times-x.ensures in
     let at = c.loop-i in
     let q = c.position_count-count.ensures in
     let ps = positions_in c.args.positions.now in
-    let x = paid c.before.before in
+    let x = paid in
     let m = ap (λ (p : Position). get_or c.args.nzd.now p.mark false) c.position_at-p.ensures in (
       omega arith,
       rw at.invariant.1 (filled (amount_of ps (entry_of c.args.a.now)) c.args.amounts.now at.i (omega (arith, q, c.requires.1)) x),

@@ -13,5 +13,4 @@ overflow_mul-result c =
     (fits _ (omega (arith, product_small a.lots a.change c.requires.0 c.requires.1)))
 
 pub returns : goal.returns
-returns c =
-    to_z-of_z ((let a = c.args in rw (back a.lots c.ranges.lots.sfits, back a.change c.ranges.change.sfits) (fits _ (omega (arith, product_small a.lots a.change c.requires.0 c.requires.1))))) ∙ rw (back c.args.lots c.ranges.lots.sfits, back c.args.change c.ranges.change.sfits)
+returns c = to_z-of_z (overflow_mul-result c) ∙ rw (back c.args.lots c.ranges.lots.sfits, back c.args.change c.ranges.change.sfits)

@@ -13,5 +13,4 @@ overflow_sub-result c =
     (fits _ (omega (arith, size_sub (pos c.args.a) (pos c.args.b))))
 
 pub returns : goal.returns
-returns c =
-    to_z-of_z ((rw (plain c.args.a (omega arith), plain c.args.b (omega arith)) (fits _ (omega (arith, size_sub (pos c.args.a) (pos c.args.b)))))) ∙ rw (plain c.args.a (omega arith), plain c.args.b (omega arith))
+returns c = to_z-of_z (overflow_sub-result c) ∙ rw (plain c.args.a (omega arith), plain c.args.b (omega arith))

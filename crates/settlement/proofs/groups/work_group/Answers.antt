@@ -26,4 +26,4 @@ returns c =
     works (changes_of (marks_in c.args.marks.now) (last_of c.args.finals.now)) c.args.g v.result c.requires.0.1 c.requires.2
     (lanes_right (marks_in c.args.marks.now) c.args.finals.now c.requires.0.1 c.requires.1 c.requires.2
     (ap (λ (m : Mark). m.code) c.mark_at.ensures) c.lane_prices-p.ensures v.ensures)
-    c.write_group.ensures.0 c.write_group.ensures.1
+    c.write_group.ensures.changes c.write_group.ensures.flags

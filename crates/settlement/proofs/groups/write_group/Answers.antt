@@ -10,7 +10,7 @@ use borrow.Author.Rules.{rules}
 use Rattle.settlement.proofs.groups.write_group.Goals as goal
 
 pub loop-k-init : goal.loop-k-init
-loop-k-init c = (omega arith, set-none c.args.t1 (lanes_change c.args.t2) c.args.a.now, set-none c.args.t1 (λ j. true) c.args.done.now)
+loop-k-init c = (omega arith, set-none c.args.g (lanes_change c.args.v) c.args.a.now, set-none c.args.g (λ j. true) c.args.done.now)
 
 pub difference-requires : goal.difference-requires
 difference-requires c = let s = c.requires.1 in (s.lane c.loop-k.k (omega arith), s.lane _ (omega arith))
@@ -27,14 +27,15 @@ loop-k-preserved c =
     let l = c.loop-k in
     let at = l.invariant in (
       omega arith,
-      set_more a.t1 (lanes_change a.t2) a.a.now l.k at.1 (back c.difference.result c.difference.type_inv ∙ c.difference.ensures),
-      set_more a.t1 (λ j. true) a.done.now l.k at.2 refl,
+      set_more a.g (lanes_change a.v) a.a.now l.k at.1 (back c.difference.result c.difference.type_inv ∙ c.difference.ensures),
+      set_more a.g (λ j. true) a.done.now l.k at.2 refl,
     )
 
 pub returns : goal.returns
 returns c =
     let a = c.args in
-    let at = c.loop-k.invariant in (
-      at-end (λ k. set_all k a.t1 (lanes_change a.t2) a.a.now) at.1 at.0 c.loop-k-test.false,
-      at-end (λ k. set_all k a.t1 (λ j. true) a.done.now) at.2 at.0 c.loop-k-test.false,
-    )
+    let at = c.loop-k.invariant in
+    record {
+      changes = at-end (λ k. set_all k a.g (lanes_change a.v) a.a.now) at.1 at.0 c.loop-k-test.false;
+      flags = at-end (λ k. set_all k a.g (λ j. true) a.done.now) at.2 at.0 c.loop-k-test.false;
+    }

@@ -14,12 +14,14 @@ settle_records-requires c =
     lists_pass_of cut (passed_lists f c.judge.ensures c.in-Passed.is)
 
 pub returns-in-Refused : goal.returns-in-Refused
-returns-in-Refused c = answered _ _ c.judge.ensures c.in-Refused.is (refuses refl)
+returns-in-Refused c =
+    let x = answered c.args.file.now c.args.amounts.now c.judge.ensures c.in-Refused.is (refuses refl) in
+    record { answer = x.0; written = x.1 }
 
 pub returns-in-Passed : goal.returns-in-Passed
 returns-in-Passed c =
     let f = c.args.file.now in
     let cut = lists_are f c.in-Passed.counts
     c.marks_in.ensures c.corrections_in.ensures c.positions_in.ensures in
-    answered f _ c.judge.ensures c.in-Passed.is
-    (settles_of (length c.args.amounts.now) cut c.settle_records.ensures)
+    let x = answered f c.args.amounts.now c.judge.ensures c.in-Passed.is (settles_of (length c.args.amounts.now) cut c.settle_records.ensures) in
+    record { answer = x.0; written = x.1 }
