@@ -5,4 +5,4 @@ use Rattle.citronreef.proofs.citronreef_make.Goals as goal
 
 pub returns : goal.returns
 returns c =
-    let m = c.make.ensures in (c.making_numbers.ensures ∙ ap making_of m.0, m.1)
+    let m = c.make.ensures in record { answer = c.making_numbers.ensures ∙ ap making_of m.answer; written = m.written }

@@ -5,4 +5,4 @@ use Rattle.citronreef.proofs.citronreef_settle.Goals as goal
 
 pub returns : goal.returns
 returns c =
-    (c.day_numbers.ensures ∙ ap outcome_of c.settle.ensures.0, c.settle.ensures.1)
+    record { answer = c.day_numbers.ensures ∙ ap outcome_of c.settle.ensures.answer; written = c.settle.ensures.written }

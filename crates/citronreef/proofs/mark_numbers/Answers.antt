@@ -7,6 +7,7 @@ use mathlib.Core.Bool.{Bool, true, false, cond}
 use Prim.Native.Nat.{ℕ}
 use mir.Syntax.{w64}
 use mir.Facts.{to_z-of_z}
+use mir.Val.{SFits}
 use borrow.Author.Rules.{rules}
 use Rattle.citronreef.proofs.mark_numbers.Goals as goal
 
@@ -20,15 +21,16 @@ number_by false n q = refl
 
 pub returns-in-Priced : goal.returns-in-Priced
 returns-in-Priced c =
-    let p = c.p-1.given in
-    let change = to_z-of_z {w = w64} {z = p.0.1.1.1.1.0} (record { sfits = c.in-Priced.known_told-1-own.given.1.1.1.1.0.1 }) in
+    let p = c.in-Priced in
+    let fit : SFits w64 p.change = search rules in
+    let change = to_z-of_z {w = w64} {z = p.change} fit in
     rw (
       change,
       c.one_if.ensures,
       c.number_if.ensures,
-      corrects-by p.0.1.1.0 p.0.1.1.1.0 p.0.1.0,
-      number_by p.0.1.1.0 p.0.1.1.1.0 p.0.1.0,
-    ) (sym (ap (λ s. mark_outcome_of (said s)) p.1))
+      corrects-by p.corrected p.number p.last,
+      number_by p.corrected p.number p.last,
+    ) (sym (ap (λ s. mark_outcome_of (said s)) p.is))
 
 pub returns-in-Refused : goal.returns-in-Refused
 returns-in-Refused c = sym (ap (λ s. mark_outcome_of (said s)) c.in-Refused.is)

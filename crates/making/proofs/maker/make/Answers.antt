@@ -10,10 +10,12 @@ write_file-requires c =
 pub returns-in-Refused : goal.returns-in-Refused
 returns-in-Refused c =
     let a = c.args in
-    answer-refused a.marks.now a.corrections.now a.positions.now a.out.now c.plan_of.ensures c.in-Refused.is
+    let x = answer-refused a.marks.now a.corrections.now a.positions.now a.out.now c.plan_of.ensures c.in-Refused.is in
+    record { answer = x.0; written = x.1 }
 
 pub returns-in-File : goal.returns-in-File
 returns-in-File c =
     let a = c.args in
-    answer-made a.marks.now a.corrections.now a.positions.now a.out.now c.plan_of.ensures c.in-File.is
-    c.length.ensures c.write_file.ensures.written
+    let x = answer-made a.marks.now a.corrections.now a.positions.now a.out.now c.plan_of.ensures c.in-File.is
+        c.length.ensures c.write_file.ensures.written in
+    record { answer = x.0; written = x.1 }
