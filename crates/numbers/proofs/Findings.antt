@@ -1,9 +1,9 @@
 -- What one check finds by itself, whatever the others say.
-use Rattle.std.proofs.Common.{◌≡◌, ℕ, ◌<◌, Bool, true, false, cond, not, ◌&&◌, ◌||◌, eqb, ◌↔◌, List, [], ◌∷◌, ◌++◌, map, sym, refl, ap, ◌∙◌, arith, eq-eqb, eqb-true}
+use Rattle.std.proofs.Common.{◌≡◌, ℕ, Bool, true, false, cond, not, ◌&&◌, ◌||◌, eqb, ◌↔◌, List, [], ◌∷◌, ◌++◌, map, sym, refl, ap, ◌∙◌, arith, eq-eqb, eqb-true}
 use mathlib.Core.List.Memᴰ
 use mathlib.Core.List.{Memᴰ}
 use Rattle.numbers.specs.Folds.{or_else}
-use Rattle.numbers.specs.Order.{FindsAt, FindsNone, pick, decision, sought, found_in, found}
+use Rattle.numbers.specs.Order.{FindsAt, pick, decision, sought, found_in, found}
 use Rattle.numbers.specs.Checks.{Checks, number_of, FindsFirst, FindsNothing, finding_of, decision_of, decision_for, finding_by}
 use Rattle.numbers.specs.declared.Found.{Found}
 use Rattle.numbers.specs.declared.Found.TheVariants.{At, Nothing}

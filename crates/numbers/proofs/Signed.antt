@@ -1,6 +1,5 @@
 -- Signed numbers by their size: omega reads the sizes, so that a sum, a difference or a product fits i64 is one bound in ℕ.
-use Rattle.std.proofs.Common.{◌≡◌, ℕ, zero, suc, ◌+◌, ◌-◌, ◌*◌, ◌^◌, ◌<◌, ◌≤◌, Bool, true, false, cond, eqb, ltb, ℤ, pos, negsuc, ◌+ℤ◌, ◌-ℤ◌, ◌*ℤ◌, neg_ℤ, nat_abs, refl, arith, w64, SFits, to_z, of_z, ltb-true, ne_eqb}
-use Rattle.numbers.specs.Integers.{is_zero}
+use Rattle.std.proofs.Common.{◌≡◌, ℕ, zero, suc, ◌+◌, ◌-◌, ◌*◌, ◌^◌, ◌<◌, ◌≤◌, Bool, true, false, cond, ltb, ℤ, pos, negsuc, ◌+ℤ◌, ◌-ℤ◌, ◌*ℤ◌, neg_ℤ, nat_abs, refl, arith, w64, SFits, to_z, of_z, ltb-true}
 use lib.IntN.{sub_ℕ}
 use lib.Signed.{mag}
 use mir.ValLaws.{to_z_pos, to_z-of_z}

@@ -1,5 +1,5 @@
 -- What is promised of the product table, as document 01 lists it.
-use mathlib.Core.Path.{◌≡◌, refl, sym}
+use mathlib.Core.Path.{◌≡◌, refl}
 use mathlib.Core.Bool.{true}
 use mathlib.Core.List.{[], ◌∷◌, map, Memᴰ}
 use mathlib.Core.Logic.{◌↔◌}

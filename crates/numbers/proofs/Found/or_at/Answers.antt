@@ -1,4 +1,3 @@
-use Rattle.std.proofs.Common.{rules}
 use Rattle.numbers.proofs.Found.or_at.Goals as goal
 
 pub returns-then-here : goal.returns-then-here

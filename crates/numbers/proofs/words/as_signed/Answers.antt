@@ -1,5 +1,5 @@
 -- A u32 moved up by 2^31 modulo 2^32, less 2^31, is the number read in two's complement; by its size the difference fits.
-use Rattle.std.proofs.Common.{pos, ◌∙◌, arith, to_z-of_z, rules}
+use Rattle.std.proofs.Common.{pos, ◌∙◌, arith, to_z-of_z}
 use Rattle.numbers.proofs.Signed.{fits, plain, size_sub}
 use Rattle.numbers.proofs.TwosComplement.{shifted_back}
 use Rattle.numbers.proofs.words.as_signed.Goals as goal

@@ -2,7 +2,6 @@
 use mathlib.Core.Path.{refl}
 use Rattle.products.proofs.ByCode.{by_lookup}
 use Rattle.products.specs.Products.{currency_of, currency_in}
-use borrow.Author.Rules.{rules}
 use Rattle.products.proofs.table.currency_of.Goals as goal
 
 pub returns-in-Named : goal.returns-in-Named

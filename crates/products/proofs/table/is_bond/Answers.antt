@@ -2,7 +2,6 @@
 use mathlib.Core.Path.{refl}
 use Rattle.products.proofs.ByCode.{by_lookup}
 use Rattle.products.specs.Products.{is_bond, bond_in}
-use borrow.Author.Rules.{rules}
 use Rattle.products.proofs.table.is_bond.Goals as goal
 
 pub returns-in-Named : goal.returns-in-Named

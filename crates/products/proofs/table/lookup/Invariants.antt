@@ -1,13 +1,8 @@
 -- At step i a search from line i on finds what a search of the whole table finds.
-use Prim.Native.Nat.{ℕ, ◌≤◌, ◌<◌, ◌-◌}
-use mathlib.Core.Path.{◌≡◌, refl, sym, ◌∙◌}
-use borrow.Author.Rules.{rules}
-use native.Mathlib.Omega.{arith}
-use lib.ListN.{drop, length}
-use Rattle.products.specs.declared.table.Code.{Code}
-use Rattle.products.specs.declared.table.NamedProduct.TheVariants.{Missing}
+use Prim.Native.Nat.{◌≤◌, ◌-◌}
+use mathlib.Core.Path.{◌≡◌}
+use lib.ListN.{drop}
 use Rattle.products.specs.Products.{products, find_in, find}
-use Rattle.products.proofs.Finding.{find-here, find_next}
 use Rattle.products.proofs.table.lookup.Given as goal
 
 abbrev pub invariant-loop-i : goal.invariant-loop-i

@@ -1,7 +1,6 @@
 -- By the tick: the constants 50 and 100 stand for a tick that is the same, and the remainder by 0 is the price itself.
 use mathlib.Core.Path.{sym}
 use native.Mathlib.Nat.{mod-zero}
-use borrow.Author.Rules.{rules}
 use Rattle.products.proofs.table.off_tick.Goals as goal
 
 pub returns-then-tick-eq50 : goal.returns-then-tick-eq50

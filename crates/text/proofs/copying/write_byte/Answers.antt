@@ -2,7 +2,6 @@
 use Rattle.text.proofs.Writing.{wrote_no_room, wrote_fitted, wrote_byte}
 use native.Mathlib.Omega.{arith}
 use mathlib.Core.List.{[], ◌∷◌}
-use borrow.Author.Rules.{rules}
 use Rattle.text.proofs.copying.write_byte.Goals as goal
 
 pub returns-then-out-lt1 : goal.returns-then-out-lt1

@@ -1,7 +1,6 @@
 -- By the room: a text that does not fit leaves the buffer as it is, and one that fits is copied.
 use Rattle.text.proofs.Writing.{wrote_no_room, wrote_fitted}
 use native.Mathlib.Omega.{arith}
-use borrow.Author.Rules.{rules}
 use Rattle.text.proofs.copying.write_text.Goals as goal
 
 pub returns-then-out-text : goal.returns-then-out-text

@@ -1,7 +1,5 @@
-use Prim.Native.Nat.{◌-◌}
 use native.Mathlib.Omega.{arith}
-use Rattle.text.proofs.Decimals.{Counted, counted_none, counted-more, counted_all, decimal_64}
-use borrow.Author.Rules.{rules}
+use Rattle.text.proofs.Decimals.{counted_none, counted-more, counted_all, decimal_64}
 use Rattle.text.proofs.decimal.long_width.Goals as goal
 
 pub loop-power-init : goal.loop-power-init

@@ -1,9 +1,7 @@
 -- At each power of ten k is one more than the number of digits that n has over n / power.
 -- Where n is below ten times the power, that quotient has one digit, and k counts all of n's.
 use Prim.Native.Nat.{◌-◌}
-use native.Mathlib.Omega.{arith}
-use Rattle.text.proofs.Decimals.{Counted, counted_none, counted-more, counted_all, decimal_64}
-use borrow.Author.Rules.{rules}
+use Rattle.text.proofs.Decimals.{Counted}
 use Rattle.text.proofs.decimal.long_width.Given as goal
 
 abbrev pub invariant-loop-power : goal.invariant-loop-power

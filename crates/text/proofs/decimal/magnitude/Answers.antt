@@ -1,5 +1,4 @@
 -- Of a negative number x, which is -(n + 1), x + 1 is -n, whose negative n fits; one more is x without its sign.
-use borrow.Author.Rules.{rules}
 use mathlib.Core.Path.{◌≡◌, refl, ap, ◌∙◌}
 use mathlib.Core.Bool.{true, false, true≢false}
 use Prim.Native.Nat.{ℕ, zero, suc, ◌+◌, ◌-◌, ◌^◌, ◌<◌}

@@ -1,8 +1,6 @@
-use mathlib.Core.Path.{◌≡◌, refl}
-use Prim.Native.Nat.{◌-◌, ◌≤◌}
+use mathlib.Core.Path.{refl}
 use native.Mathlib.Omega.{arith}
-use Rattle.text.proofs.Decimals.{Counted, counted_none, counted_step, counted_all}
-use borrow.Author.Rules.{rules}
+use Rattle.text.proofs.Decimals.{counted_none, counted_step, counted_all}
 use Rattle.text.proofs.decimal.short_width.Goals as goal
 
 pub loop-power-init : goal.loop-power-init

@@ -1,10 +1,8 @@
 -- At each power of ten k is one more than the number of digits that n has over n / power, and is i as long as the power is not above n.
 -- At the last power n is below ten times it, so that n / power has one digit and k counts all of n's.
-use mathlib.Core.Path.{◌≡◌, refl}
+use mathlib.Core.Path.{◌≡◌}
 use Prim.Native.Nat.{◌-◌, ◌≤◌}
-use native.Mathlib.Omega.{arith}
-use Rattle.text.proofs.Decimals.{Counted, counted_none, counted_step, counted_all}
-use borrow.Author.Rules.{rules}
+use Rattle.text.proofs.Decimals.{Counted}
 use Rattle.text.proofs.decimal.short_width.Given as goal
 
 abbrev pub invariant-loop-power : goal.invariant-loop-power

@@ -3,7 +3,6 @@ use Rattle.text.proofs.Writing.{wrote_no_room, wrote_fitted}
 use Rattle.text.specs.Table.{decimal_by}
 use Rattle.text.proofs.Table.{by_length}
 use native.Mathlib.Omega.{arith}
-use borrow.Author.Rules.{rules}
 use Rattle.text.proofs.decimal.write_decimal.Goals as goal
 
 pub returns-then-out-k : goal.returns-then-out-k

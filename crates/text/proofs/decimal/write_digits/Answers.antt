@@ -1,12 +1,9 @@
 use native.Mathlib.Nat.{div-lt_self}
-use mathlib.Core.Path.{◌≡◌, refl, sym, ◌∙◌}
-use Prim.Native.Nat.{◌<◌}
+use mathlib.Core.Path.{refl, sym, ◌∙◌}
 use native.Mathlib.Omega.{arith}
-use lib.ListN.{length, length-set}
-use Rattle.text.specs.Writing.{over}
-use Rattle.text.specs.Table.{decimal_by}
+use lib.ListN.{length-set}
 use Rattle.text.proofs.Decimals.{some-digit}
-use Rattle.text.proofs.Table.{Left, left_two, by_length}
+use Rattle.text.proofs.Table.{left_two, by_length}
 use Rattle.text.proofs.decimal.write_digits.Goals as goal
 
 pub overflow_sub-i : goal.overflow_sub-i

@@ -1,14 +1,11 @@
 -- At each step the buffer with the figures of the rest written to its start, the last in the place i, is the finished one:
 -- the last two figures are stored, and the rest's hundredth is left.
-use native.Mathlib.Nat.{div-lt_self}
-use mathlib.Core.Path.{◌≡◌, refl, sym, ◌∙◌}
+use mathlib.Core.Path.{◌≡◌}
 use Prim.Native.Nat.{◌<◌}
-use native.Mathlib.Omega.{arith}
-use lib.ListN.{length, length-set}
+use lib.ListN.{length}
 use Rattle.text.specs.Writing.{over}
 use Rattle.text.specs.Table.{decimal_by}
-use Rattle.text.proofs.Decimals.{some-digit}
-use Rattle.text.proofs.Table.{Left, left_two, by_length}
+use Rattle.text.proofs.Table.{Left}
 use Rattle.text.proofs.decimal.write_digits.Given as goal
 
 abbrev pub invariant-loop-rest : goal.invariant-loop-rest

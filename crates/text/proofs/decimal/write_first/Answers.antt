@@ -1,6 +1,5 @@
 -- By whether the number has one digit or two: a single one overwrites the figure that was stored in its place.
 use Rattle.text.proofs.Table.{first-written}
-use borrow.Author.Rules.{rules}
 use Rattle.text.proofs.decimal.write_first.Goals as goal
 
 pub returns : goal.returns

@@ -3,7 +3,6 @@ use Rattle.text.specs.Table.{signed_decimal_by}
 use Rattle.text.proofs.Table.{sign_is}
 use mir.Facts.{to_z-of_z}
 use mir.Syntax.{w64}
-use borrow.Author.Rules.{rules}
 use Rattle.text.proofs.decimal.write_signed.Goals as goal
 
 pub write_with_sign-requires : goal.write_with_sign-requires

@@ -7,7 +7,6 @@ use Rattle.text.specs.Decimal.{minus_sign}
 use lib.ListN.{take, length-set, length-take, length-drop}
 use native.Mathlib.Omega.{arith}
 use mathlib.Core.List.{[], ◌∷◌, ◌++◌}
-use borrow.Author.Rules.{rules}
 use Rattle.text.proofs.decimal.write_with_sign.Goals as goal
 
 pub overflow_add-s : goal.overflow_add-s

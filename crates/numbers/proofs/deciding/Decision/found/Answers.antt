@@ -1,4 +1,4 @@
-use Rattle.std.proofs.Common.{sym, ap, rules}
+use Rattle.std.proofs.Common.{sym, ap}
 use Rattle.numbers.specs.Order.{found_in}
 use Rattle.numbers.proofs.deciding.Decision.found.Goals as goal
 

@@ -1,5 +1,5 @@
 -- By what is decided so far, what was found, and whether the condition is looked at; one that found nothing decides nothing either way.
-use Rattle.std.proofs.Common.{◌≡◌, sym, ap, ◌∙◌, rules}
+use Rattle.std.proofs.Common.{sym, ap}
 use Rattle.numbers.specs.Order.{pick}
 use Rattle.numbers.specs.declared.deciding.Decision.TheVariants.{Unmet}
 use Rattle.numbers.proofs.Order.{nothing_sought}

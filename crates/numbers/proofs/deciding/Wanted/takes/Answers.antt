@@ -1,4 +1,3 @@
-use Rattle.std.proofs.Common.{rules}
 use Rattle.numbers.proofs.deciding.Wanted.takes.Goals as goal
 
 pub returns-in-One : goal.returns-in-One
