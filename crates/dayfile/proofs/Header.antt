@@ -18,7 +18,6 @@ use Rattle.dayfile.specs.Limits.{file_limits}
 use Rattle.dayfile.specs.Layout.{counts_of, header_size}
 use Rattle.dayfile.specs.Opening.{within_limits, as_laid_out, opened_of, header_checks, looked_at, header_decision, decided_by_tests, counted_of}
 use Rattle.dayfile.specs.declared.file.DayFile.{DayFile}
-use Rattle.dayfile.specs.declared.file.Opened.{Opened}
 use Rattle.dayfile.specs.declared.file.Opened.TheVariants.{File, Refused}
 use Rattle.dayfile.proofs.Opening.{opened_by_tests, counted-file}
 

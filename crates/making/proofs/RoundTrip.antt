@@ -18,7 +18,7 @@ use Rattle.numbers.proofs.Checks.{Agree, agree_only, agree_before, refuses_exact
 use Rattle.numbers.proofs.Sections.{size_is}
 use Rattle.dayfile.specs.Limits.{Limits, file_limits}
 use Rattle.dayfile.specs.Records.{mark_size, correction_size, position_size, mark_of, correction_of, position_of, lists_of}
-use Rattle.dayfile.specs.Layout.{header_size, counts_of, mark_bytes, correction_bytes, position_bytes}
+use Rattle.dayfile.specs.Layout.{counts_of, mark_bytes, correction_bytes, position_bytes}
 use Rattle.dayfile.specs.Opening.{opened_of}
 use Rattle.dayfile.specs.Making.{counts_in, made_of}
 use Rattle.dayfile.specs.WithinLimits.{WholeRecords}

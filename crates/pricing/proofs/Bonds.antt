@@ -2,11 +2,10 @@
 use mathlib.Core.Path.{◌≡◌, refl}
 use Prim.Native.Nat.{ℕ, ◌*◌, ◌^◌, ◌≤◌}
 use native.Mathlib.Nat.{le_refl}
-use native.Mathlib.Omega.{arith}
-use lib.Dec.{lit≤, T, leb, leb→le}
+use lib.Dec.{lit≤}
 use Rattle.numbers.specs.Nearness.{Near}
-use Rattle.numbers.proofs.Nearness.{near_cancel, near_as}
-use Rattle.products.specs.Products.{products, find, same_code_lem}
+use Rattle.numbers.proofs.Nearness.{near_as}
+use Rattle.products.specs.Products.{products, find}
 use Rattle.pricing.specs.Ladder.{bracket, whole_bracket}
 use Rattle.pricing.specs.Value.{scale, bond_divisor}
 use Rattle.pricing.specs.Calls.{given, of_product, of_bond, at_price, bracket_of}
@@ -18,7 +17,7 @@ use Rattle.products.specs.declared.table.NamedProduct.TheVariants.{Named, Missin
 use Rattle.products.specs.declared.table.Terms.{Terms}
 use Rattle.products.specs.declared.table.Terms.TheVariants.{Bill, Bond, CashRate}
 use Rattle.pricing.proofs.Distance.{ladder_distance}
-use Rattle.products.proofs.Finding.{Every, of_found, found-code}
+use Rattle.products.proofs.Finding.{Every, of_found}
 use Rattle.pricing.proofs.Bounds.{scale_positive, bond_divisor_lem}
 use Rattle.pricing.proofs.Answers.{Listed, not-given, after-price}
 

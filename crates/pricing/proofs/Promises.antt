@@ -1,7 +1,7 @@
 -- What is promised of one contract. Open this file first: each law is stated here in the terms of specs/, its argument stands in the file it cites.
 use mathlib.Core.List.{[], ◌∷◌, map}
 use mathlib.Core.Path.{◌≡◌, refl, sym, ap, ◌∙◌}
-use Prim.Native.Nat.{ℕ, suc, ◌+◌, ◌*◌, ◌-◌, ◌%◌, ◌^◌, ◌≤◌, ◌<◌}
+use Prim.Native.Nat.{ℕ, suc, ◌+◌, ◌*◌, ◌%◌, ◌^◌, ◌≤◌, ◌<◌}
 use native.Mathlib.Nat.{add-mod_right}
 use native.Mathlib.Omega.{arith}
 use lib.Dec.{lit≤}

@@ -1,7 +1,7 @@
 -- When a single-contract call is turned away: the conditions of its checks, as statements about the code and the price.
 use Rattle.std.specs.Prelude.{ℕ, ◌+◌, ◌<◌, ◌≡◌, ◌↔◌}
 use Rattle.std.specs.Int.{◌∣◌}
-use mathlib.Core.List.{List, [], ◌∷◌, Memᴰ}
+use mathlib.Core.List.{List, [], ◌∷◌}
 use Rattle.numbers.specs.Order.{Decides, Clear}
 use Rattle.products.specs.Products.{price_limit, find, Unlisted}
 use Rattle.pricing.specs.Calls.{Answer, given, refused}

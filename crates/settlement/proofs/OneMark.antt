@@ -1,9 +1,9 @@
 -- The prices of one mark, as the code finds them.
-use mathlib.Core.Path.{◌≡◌, refl, sym, ap, ◌∙◌}
+use mathlib.Core.Path.{◌≡◌, refl, ap, ◌∙◌}
 use mathlib.Core.Bool.{Bool, true, false, ◌&&◌}
 use mathlib.Core.List.{List}
 use mathlib.Core.Logic.{◌≢◌}
-use Prim.Native.Nat.{ℕ, ◌+◌, ◌≤◌, ◌<◌}
+use Prim.Native.Nat.{ℕ, ◌+◌, ◌<◌}
 use native.Mathlib.Numerals.{add-one}
 use lib.Dec.{ltb}
 use lib.IntN.{ℤ, pos, ◌-ℤ◌}
@@ -22,7 +22,7 @@ use Rattle.dayfile.specs.declared.records.Correction.{Correction}
 use Rattle.checks.specs.Judging.{judged_of}
 use Rattle.checks.specs.declared.judging.Judged.{Judged}
 use Rattle.settlement.specs.ContractValue.{value_or_zero}
-use Rattle.settlement.specs.Prices.{Highest, Numbered, higher_of, after_of, highest_of, or_today, final_of, change_of}
+use Rattle.settlement.specs.Prices.{Highest, Numbered, after_of, highest_of, or_today, final_of}
 use Rattle.settlement.specs.OneMark.{MarkAnswer, priced, highest_by, priced_mark, mark_answer_in, mark_answer_by, mark_answer_of}
 use Rattle.settlement.proofs.Changes.{change_by}
 

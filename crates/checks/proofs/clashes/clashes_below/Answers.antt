@@ -1,5 +1,5 @@
 -- By whether k is 0, which names no correction; any other k names the one with the index k − 1.
-use Rattle.std.proofs.Common.{◌-◌, arith, rules}
+use Rattle.std.proofs.Common.{◌-◌, arith}
 use Rattle.dayfile.specs.Records.{corrections_in}
 use Rattle.checks.specs.Corrections.{clashing}
 use Rattle.numbers.proofs.Chain.{by_two}

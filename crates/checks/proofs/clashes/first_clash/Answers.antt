@@ -1,8 +1,6 @@
-use Rattle.std.proofs.Common.{◌≡◌, ◌-◌, ◌<◌, ◌≤◌, length, sym, arith, rules}
-use Rattle.numbers.specs.Folds.{repeating, first}
+use Rattle.std.proofs.Common.{◌<◌, length, sym, arith, rules}
+use Rattle.numbers.specs.Folds.{first}
 use Rattle.dayfile.specs.Records.{corrections_in}
-use Rattle.checks.specs.Corrections.{clash_pair}
-use Rattle.numbers.specs.declared.Found.TheVariants.{Nothing}
 use Rattle.numbers.proofs.Chain.{at-end}
 use Rattle.numbers.proofs.Searches.{first-none, first_more, first-here}
 use Rattle.checks.proofs.LastNumbers.{clashes}

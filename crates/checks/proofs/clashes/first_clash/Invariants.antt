@@ -1,13 +1,10 @@
 -- At step i none of the first i corrections clashes with an earlier one.
 -- Then correction i clashes with an earlier one exactly where it clashes with the last that has its number.
-use Rattle.std.proofs.Common.{◌≡◌, ◌-◌, ◌<◌, ◌≤◌, length, sym, arith, rules}
+use Rattle.std.proofs.Common.{◌≡◌, ◌-◌, ◌≤◌}
 use Rattle.numbers.specs.Folds.{repeating, first}
 use Rattle.dayfile.specs.Records.{corrections_in}
 use Rattle.checks.specs.Corrections.{clash_pair}
 use Rattle.numbers.specs.declared.Found.TheVariants.{Nothing}
-use Rattle.numbers.proofs.Chain.{at-end}
-use Rattle.numbers.proofs.Searches.{first-none, first_more, first-here}
-use Rattle.checks.proofs.LastNumbers.{clashes}
 use Rattle.checks.proofs.clashes.first_clash.Given as goal
 
 abbrev pub invariant-loop-i : goal.invariant-loop-i

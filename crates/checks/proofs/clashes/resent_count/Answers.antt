@@ -1,7 +1,6 @@
-use Rattle.std.proofs.Common.{◌≡◌, ◌-◌, ◌<◌, ◌≤◌, length, refl, add-one, arith, rules}
-use Rattle.numbers.specs.Folds.{repeating, count}
+use Rattle.std.proofs.Common.{◌<◌, length, refl, add-one, arith, rules}
+use Rattle.numbers.specs.Folds.{count}
 use Rattle.dayfile.specs.Records.{corrections_in}
-use Rattle.checks.specs.Corrections.{number_pair}
 use Rattle.numbers.proofs.Chain.{at-end}
 use Rattle.checks.proofs.LastNumbers.{repeats}
 use Rattle.checks.proofs.clashes.resent_count.Goals as goal

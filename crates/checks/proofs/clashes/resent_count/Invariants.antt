@@ -1,10 +1,8 @@
 -- At step i the count is that of the first i corrections that bear an earlier one's number: those for which the array names a last one.
-use Rattle.std.proofs.Common.{◌≡◌, ◌-◌, ◌<◌, ◌≤◌, length, refl, add-one, arith, rules}
+use Rattle.std.proofs.Common.{◌≡◌, ◌-◌, ◌≤◌}
 use Rattle.numbers.specs.Folds.{repeating, count}
 use Rattle.dayfile.specs.Records.{corrections_in}
 use Rattle.checks.specs.Corrections.{number_pair}
-use Rattle.numbers.proofs.Chain.{at-end}
-use Rattle.checks.proofs.LastNumbers.{repeats}
 use Rattle.checks.proofs.clashes.resent_count.Given as goal
 
 abbrev pub invariant-loop-i : goal.invariant-loop-i

@@ -1,4 +1,3 @@
-use Rattle.std.proofs.Common.{rules}
 use Rattle.checks.proofs.corrections.decide.Goals as goal
 
 pub returns : goal.returns

@@ -1,6 +1,6 @@
 -- Where no correction has a fault and none clashes no check finds anything; else the first corrections found decide in the order.
 -- Corrections have one key exactly where they bear one number, so that the array has the last earlier one with each correction's number.
-use Rattle.std.proofs.Common.{replicate, sym, refl, ◌∙◌, rules}
+use Rattle.std.proofs.Common.{replicate, sym, refl, ◌∙◌}
 use Rattle.dayfile.specs.Limits.{file_limits}
 use Rattle.dayfile.specs.Records.{marks_in, corrections_in}
 use Rattle.checks.proofs.Keyed.{last_numbers}
@@ -17,8 +17,7 @@ resent_count-resent-requires c =
 
 pub returns-then-bad-is_some : goal.returns-then-bad-is_some
 returns-then-bad-is_some c =
-    let a = c.args in
-    (
+    let a = c.args in (
       corrections_decided (marks_in a.marks.now) (corrections_in a.corrections.now) _ c.find_first.ensures c.first_clash-clash.ensures c.decide.ensures,
       c.resent_count-resent.ensures,
     )

@@ -1,5 +1,5 @@
 -- By whether there is a mark with its index: without one there is no tick for the price to be off, and with one the array holds its tick.
-use Rattle.std.proofs.Common.{◌<◌, length, arith, rules}
+use Rattle.std.proofs.Common.{◌<◌, length, arith}
 use Rattle.dayfile.specs.Records.{marks_in}
 use Rattle.checks.proofs.Faults.{without_mark, with_mark}
 use Rattle.checks.proofs.corrections.faults.Goals as goal

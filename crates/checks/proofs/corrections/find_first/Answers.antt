@@ -1,4 +1,4 @@
-use Rattle.std.proofs.Common.{◌≡◌, ◌-◌, ◌≤◌, ap, ◌∙◌, arith, rules}
+use Rattle.std.proofs.Common.{ap, ◌∙◌, arith, rules}
 use Rattle.dayfile.specs.Records.{marks_in, corrections_in}
 use Rattle.checks.specs.Faults.{correction_faults, correction_findings}
 use Rattle.numbers.proofs.Chain.{at-end}

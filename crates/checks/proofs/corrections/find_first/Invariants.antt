@@ -1,9 +1,7 @@
 -- At step i each finding is that of the first i corrections.
-use Rattle.std.proofs.Common.{◌≡◌, ◌-◌, ◌≤◌, ap, ◌∙◌, arith, rules}
+use Rattle.std.proofs.Common.{◌≡◌, ◌-◌, ◌≤◌}
 use Rattle.dayfile.specs.Records.{marks_in, corrections_in}
-use Rattle.checks.specs.Faults.{correction_faults, correction_findings}
-use Rattle.numbers.proofs.Chain.{at-end}
-use Rattle.checks.proofs.Deciding.{no_corrections, correction_more}
+use Rattle.checks.specs.Faults.{correction_findings}
 use Rattle.checks.proofs.corrections.find_first.Given as goal
 
 abbrev pub invariant-loop-i : goal.invariant-loop-i

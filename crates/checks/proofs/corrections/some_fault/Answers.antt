@@ -1,4 +1,4 @@
-use Rattle.std.proofs.Common.{◌≡◌, ◌-◌, ◌≤◌, ap, ◌∙◌, arith, rules}
+use Rattle.std.proofs.Common.{ap, ◌∙◌, arith, rules}
 use Rattle.numbers.specs.Folds.{some}
 use Rattle.dayfile.specs.Records.{marks_in, corrections_in, correction_at}
 use Rattle.checks.specs.Faults.{correction_faults, any_correction_fault}

@@ -1,10 +1,8 @@
 -- At step i the answer so far is whether one of the first i corrections has a fault.
-use Rattle.std.proofs.Common.{◌≡◌, ◌-◌, ◌≤◌, ap, ◌∙◌, arith, rules}
+use Rattle.std.proofs.Common.{◌≡◌, ◌-◌, ◌≤◌}
 use Rattle.numbers.specs.Folds.{some}
 use Rattle.dayfile.specs.Records.{marks_in, corrections_in, correction_at}
 use Rattle.checks.specs.Faults.{correction_faults, any_correction_fault}
-use Rattle.numbers.proofs.Chain.{at-end}
-use Rattle.numbers.proofs.Searches.{some_start, some_next}
 use Rattle.checks.proofs.corrections.some_fault.Given as goal
 
 abbrev pub invariant-loop-i : goal.invariant-loop-i

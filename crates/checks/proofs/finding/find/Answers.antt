@@ -1,6 +1,6 @@
 -- By whether checks 1 and 2 give the counts: without them the header alone is looked at, with them the header and then the records.
 -- What is decided where check k alone is looked at is what check k finds.
-use Rattle.std.proofs.Common.{sym, ◌∙◌, rules}
+use Rattle.std.proofs.Common.{sym, ◌∙◌}
 use Rattle.checks.proofs.Found.{found_in-header, counted-within, found_in-file}
 use Rattle.checks.proofs.finding.find.Goals as goal
 

@@ -1,5 +1,5 @@
 -- Above a limit check 2 refuses before all others, and within all three the checks over the records decide.
-use Rattle.std.proofs.Common.{sym, ◌∙◌, rules}
+use Rattle.std.proofs.Common.{sym, ◌∙◌}
 use Rattle.numbers.proofs.Checks.{one_decides, one_passes, decision_all}
 use Rattle.dayfile.specs.Limits.{file_limits}
 use Rattle.dayfile.specs.Records.{lists_of}

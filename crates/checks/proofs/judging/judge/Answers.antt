@@ -1,5 +1,5 @@
 -- By whether checks 1 to 3 open the file: their refusal stands before all others, and where they find nothing the records decide.
-use Rattle.std.proofs.Common.{sym, ◌∙◌, rules}
+use Rattle.std.proofs.Common.{sym, ◌∙◌}
 use Rattle.checks.proofs.Judgements.{opened_within, judged_refused, judged_opened}
 use Rattle.checks.proofs.judging.judge.Goals as goal
 

@@ -1,5 +1,5 @@
 -- Where all checks are looked at they decide as their order does, and the judgement goes by that decision.
-use Rattle.std.proofs.Common.{sym, refl, ap, ◌∙◌, rules}
+use Rattle.std.proofs.Common.{refl, ap, ◌∙◌}
 use Rattle.numbers.proofs.Checks.{decision_all}
 use Rattle.dayfile.specs.Records.{lists_of}
 use Rattle.checks.specs.Judging.{record_checks}

@@ -1,4 +1,3 @@
-use Rattle.std.proofs.Common.{rules}
 use Rattle.checks.proofs.judging.too_many.Goals as goal
 
 pub returns : goal.returns

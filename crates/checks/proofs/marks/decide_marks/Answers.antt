@@ -1,5 +1,5 @@
 -- Where no mark has a fault and none repeats an earlier one no check finds anything; else the first marks found decide in the order.
-use Rattle.std.proofs.Common.{sym, ◌∙◌, rules}
+use Rattle.std.proofs.Common.{sym, ◌∙◌}
 use Rattle.dayfile.specs.Records.{marks_in}
 use Rattle.checks.proofs.Deciding.{marks_decided, marks_clear, neither}
 use Rattle.checks.proofs.marks.decide_marks.Goals as goal

@@ -1,5 +1,5 @@
 -- By what the lookup of the mark's code found; without a product the tick is 1, and no price is off it.
-use Rattle.std.proofs.Common.{◌∙◌, rules}
+use Rattle.std.proofs.Common.{◌∙◌}
 use Rattle.products.proofs.ByCode.{by_lookup}
 use Rattle.checks.proofs.Faults.{faults_in, faults_found}
 use Rattle.checks.proofs.marks.faults.Goals as goal

@@ -1,4 +1,4 @@
-use Rattle.std.proofs.Common.{◌≡◌, ◌-◌, ◌≤◌, ap, ◌∙◌, arith, rules}
+use Rattle.std.proofs.Common.{ap, ◌∙◌, arith, rules}
 use Rattle.dayfile.specs.Records.{marks_in}
 use Rattle.checks.specs.Faults.{mark_faults, mark_findings}
 use Rattle.numbers.proofs.Chain.{at-end}

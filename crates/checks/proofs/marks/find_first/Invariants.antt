@@ -1,9 +1,7 @@
 -- At step i each finding is that of the first i marks.
-use Rattle.std.proofs.Common.{◌≡◌, ◌-◌, ◌≤◌, ap, ◌∙◌, arith, rules}
+use Rattle.std.proofs.Common.{◌≡◌, ◌-◌, ◌≤◌}
 use Rattle.dayfile.specs.Records.{marks_in}
-use Rattle.checks.specs.Faults.{mark_faults, mark_findings}
-use Rattle.numbers.proofs.Chain.{at-end}
-use Rattle.checks.proofs.Deciding.{no_marks, mark-more}
+use Rattle.checks.specs.Faults.{mark_findings}
 use Rattle.checks.proofs.marks.find_first.Given as goal
 
 abbrev pub invariant-loop-i : goal.invariant-loop-i

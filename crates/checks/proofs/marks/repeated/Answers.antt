@@ -1,5 +1,5 @@
 -- Marks have one key exactly where they are of one contract.
-use Rattle.std.proofs.Common.{arith, rules}
+use Rattle.std.proofs.Common.{arith}
 use Rattle.numbers.specs.Bytes.{Bytes}
 use Rattle.checks.proofs.Keyed.{repeated_mark}
 use Rattle.checks.proofs.marks.repeated.Goals as goal

@@ -1,8 +1,7 @@
-use Rattle.std.proofs.Common.{◌≡◌, ◌-◌, ◌<◌, ◌≤◌, length, ap, ◌∙◌, arith, length-set, rules}
-use Rattle.numbers.specs.Folds.{some, Filled}
-use Rattle.dayfile.specs.Limits.{file_limits}
+use Rattle.std.proofs.Common.{◌<◌, length, ap, ◌∙◌, arith, length-set, rules}
+use Rattle.numbers.specs.Folds.{some}
 use Rattle.dayfile.specs.Records.{marks_in, mark_at}
-use Rattle.checks.specs.Faults.{mark_faults, any_mark_fault, tick_at}
+use Rattle.checks.specs.Faults.{mark_faults, any_mark_fault}
 use Rattle.checks.specs.declared.marks.MarkFaults.{MarkFaults}
 use Rattle.numbers.proofs.Chain.{at-end}
 use Rattle.numbers.proofs.Filled.{filled_none, filled_more}

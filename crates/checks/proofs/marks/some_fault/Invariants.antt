@@ -1,13 +1,9 @@
 -- At step i the answer so far is whether one of the first i marks has a fault, and the first i places of the array hold their ticks.
-use Rattle.std.proofs.Common.{◌≡◌, ◌-◌, ◌<◌, ◌≤◌, length, ap, ◌∙◌, arith, length-set, rules}
+use Rattle.std.proofs.Common.{◌≡◌, ◌-◌, ◌≤◌, length}
 use Rattle.numbers.specs.Folds.{some, Filled}
 use Rattle.dayfile.specs.Limits.{file_limits}
 use Rattle.dayfile.specs.Records.{marks_in, mark_at}
 use Rattle.checks.specs.Faults.{mark_faults, any_mark_fault, tick_at}
-use Rattle.checks.specs.declared.marks.MarkFaults.{MarkFaults}
-use Rattle.numbers.proofs.Chain.{at-end}
-use Rattle.numbers.proofs.Filled.{filled_none, filled_more}
-use Rattle.numbers.proofs.Searches.{some_start, some_next}
 use Rattle.checks.proofs.marks.some_fault.Given as goal
 
 abbrev pub invariant-loop-i : goal.invariant-loop-i

@@ -1,5 +1,5 @@
 -- By the numbers of marks and positions: above a limit check 2 refuses before all others, and within both the checks over positions decide.
-use Rattle.std.proofs.Common.{ltb, ◌∙◌, rules, ltb-false}
+use Rattle.std.proofs.Common.{ltb, ◌∙◌, ltb-false}
 use Rattle.numbers.proofs.Checks.{one_decides, one_passes, decision_all}
 use Rattle.numbers.proofs.Searches.{or_none}
 use Rattle.dayfile.specs.Limits.{file_limits}

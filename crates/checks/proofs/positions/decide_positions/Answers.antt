@@ -1,5 +1,5 @@
 -- Where no position has a fault and none repeats an earlier one no check finds anything; else the first positions found decide in the order.
-use Rattle.std.proofs.Common.{sym, ◌∙◌, rules}
+use Rattle.std.proofs.Common.{sym, ◌∙◌}
 use Rattle.dayfile.specs.Records.{marks_in, positions_in}
 use Rattle.checks.proofs.Deciding.{positions_decided, positions_clear, neither}
 use Rattle.checks.proofs.positions.decide_positions.Goals as goal

@@ -1,5 +1,5 @@
 -- Positions have one key exactly where they agree in account and mark.
-use Rattle.std.proofs.Common.{arith, rules}
+use Rattle.std.proofs.Common.{arith}
 use Rattle.numbers.specs.Bytes.{Bytes}
 use Rattle.checks.proofs.Keyed.{repeated_position}
 use Rattle.checks.proofs.positions.repeated.Goals as goal

@@ -1,4 +1,4 @@
-use Rattle.std.proofs.Common.{◌≡◌, ◌-◌, ◌≤◌, ap, ◌∙◌, arith, rules}
+use Rattle.std.proofs.Common.{ap, ◌∙◌, arith, rules}
 use Rattle.numbers.specs.Folds.{some}
 use Rattle.dayfile.specs.Records.{marks_in, positions_in, position_at}
 use Rattle.checks.specs.Faults.{position_faults, any_position_fault}

@@ -1,11 +1,8 @@
 -- At step i the answer so far is whether one of the first i positions has a fault, told by the numbers that its bytes have.
-use Rattle.std.proofs.Common.{◌≡◌, ◌-◌, ◌≤◌, ap, ◌∙◌, arith, rules}
+use Rattle.std.proofs.Common.{◌≡◌, ◌-◌, ◌≤◌}
 use Rattle.numbers.specs.Folds.{some}
 use Rattle.dayfile.specs.Records.{marks_in, positions_in, position_at}
 use Rattle.checks.specs.Faults.{position_faults, any_position_fault}
-use Rattle.numbers.proofs.Chain.{at-end}
-use Rattle.numbers.proofs.Searches.{some_start, some_next}
-use Rattle.checks.proofs.RawLots.{raw_faults_lem}
 use Rattle.checks.proofs.positions.some_fault.Given as goal
 
 abbrev pub invariant-loop-i : goal.invariant-loop-i

@@ -1,4 +1,3 @@
-use borrow.Author.Rules.{rules}
 use Rattle.dayfile.proofs.file.as_laid_out.Goals as goal
 
 pub returns : goal.returns

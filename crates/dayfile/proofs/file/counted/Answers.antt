@@ -1,7 +1,6 @@
 -- By the length: a file shorter than a header is refused with 1; of another, the limits decide between its counts and a refusal with 2.
 use mathlib.Core.Path.{sym, ◌∙◌}
 use Rattle.dayfile.proofs.Header.{counted-short, counted-whole}
-use borrow.Author.Rules.{rules}
 use Rattle.dayfile.proofs.file.counted.Goals as goal
 
 pub returns-then-s-lt-HEADER : goal.returns-then-s-lt-HEADER

@@ -1,5 +1,4 @@
 use Rattle.dayfile.specs.Layout.{counts_of}
-use borrow.Author.Rules.{rules}
 use Rattle.dayfile.proofs.file.counts.Goals as goal
 
 pub returns : goal.returns

@@ -1,7 +1,6 @@
 -- By the length: of a file shorter than a header tests 2 and 3 say nothing, so that check 1 decides alone;
 -- of another the three tests, one after the other, decide what the checks decide in their order.
 use Rattle.dayfile.proofs.Header.{decided_short, decided_whole}
-use borrow.Author.Rules.{rules}
 use Rattle.dayfile.proofs.file.decide_header.Goals as goal
 
 pub returns-then-s-lt-HEADER : goal.returns-then-s-lt-HEADER

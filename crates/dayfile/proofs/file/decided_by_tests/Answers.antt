@@ -1,4 +1,3 @@
-use borrow.Author.Rules.{rules}
 use Rattle.dayfile.proofs.file.decided_by_tests.Goals as goal
 
 pub returns : goal.returns

@@ -2,7 +2,6 @@
 use mathlib.Core.Path.{sym, ◌∙◌}
 use Rattle.dayfile.proofs.Opening.{counted-refused}
 use Rattle.dayfile.proofs.Header.{whole-header, by_layout}
-use borrow.Author.Rules.{rules}
 use Rattle.dayfile.proofs.file.open_file.Goals as goal
 
 pub as_laid_out-requires : goal.as_laid_out-requires

@@ -4,7 +4,6 @@ use Prim.Native.Nat.{◌-◌}
 use native.Mathlib.Omega.{arith}
 use lib.ListN.{length}
 use Rattle.numbers.proofs.Sections.{part-rest, part_past, part_none}
-use borrow.Author.Rules.{rules}
 use Rattle.dayfile.proofs.file.section.Goals as goal
 
 pub returns-then-start-file : goal.returns-then-start-file

@@ -1,4 +1,3 @@
-use borrow.Author.Rules.{rules}
 use Rattle.dayfile.proofs.records.correction_of.Goals as goal
 
 pub returns : goal.returns

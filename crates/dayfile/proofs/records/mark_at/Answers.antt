@@ -4,7 +4,6 @@ use native.Mathlib.Nat.{add-sub_cancel_left}
 use Rattle.numbers.specs.Bytes.{u32_at}
 use Rattle.dayfile.specs.Records.{mark_size, mark_of, mark_at}
 use Rattle.numbers.proofs.Sections.{record_here, record_past}
-use borrow.Author.Rules.{rules}
 use Rattle.dayfile.proofs.records.mark_at.Goals as goal
 
 pub returns-then-i-s : goal.returns-then-i-s

@@ -4,7 +4,6 @@ use Rattle.numbers.specs.Bytes.{signed}
 use Rattle.numbers.proofs.Signed.{back}
 use Rattle.dayfile.specs.declared.records.RawPosition.{RawPosition}
 use Rattle.dayfile.proofs.Fields.{position_by, as_signed_position}
-use borrow.Author.Rules.{rules}
 use Rattle.dayfile.proofs.records.position_at.Goals as goal
 
 pub returns : goal.returns

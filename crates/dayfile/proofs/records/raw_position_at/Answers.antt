@@ -4,7 +4,6 @@ use native.Mathlib.Nat.{add-sub_cancel_left}
 use Rattle.numbers.specs.Bytes.{u32_at}
 use Rattle.dayfile.specs.Records.{position_size, raw_position_of, raw_position_at}
 use Rattle.numbers.proofs.Sections.{record_here, record_past}
-use borrow.Author.Rules.{rules}
 use Rattle.dayfile.proofs.records.raw_position_at.Goals as goal
 
 pub returns-then-i-s : goal.returns-then-i-s

@@ -1,4 +1,3 @@
-use borrow.Author.Rules.{rules}
 use Rattle.dayfile.proofs.records.raw_position_of.Goals as goal
 
 pub returns : goal.returns

@@ -1,5 +1,4 @@
 use Rattle.making.proofs.Planned.{whole_here, answer-refused, answer-made}
-use borrow.Author.Rules.{rules}
 use Rattle.making.proofs.maker.make.Goals as goal
 
 pub write_file-requires : goal.write_file-requires
@@ -17,5 +16,5 @@ pub returns-in-File : goal.returns-in-File
 returns-in-File c =
     let a = c.args in
     let x = answer-made a.marks.now a.corrections.now a.positions.now a.out.now c.plan_of.ensures c.in-File.is
-        c.length.ensures c.write_file.ensures.written in
+    c.length.ensures c.write_file.ensures.written in
     record { answer = x.0; written = x.1 }

@@ -1,5 +1,4 @@
 use Rattle.dayfile.specs.Making.{counts_in}
-use borrow.Author.Rules.{rules}
 use Rattle.making.proofs.plans.counts.Goals as goal
 
 pub returns : goal.returns

@@ -2,7 +2,6 @@
 use mathlib.Core.Path.{sym, ◌∙◌}
 use Rattle.checks.proofs.Passed.{few-records}
 use Rattle.making.proofs.Planned.{planned_2, planned_3, planned_records, planned_room}
-use borrow.Author.Rules.{rules}
 use Rattle.making.proofs.plans.plan_of.Goals as goal
 
 pub returns-then-too_many : goal.returns-then-too_many

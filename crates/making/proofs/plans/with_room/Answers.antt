@@ -1,5 +1,4 @@
 use borrow.Author.Tests.{lt-ltb, le-ltb}
-use borrow.Author.Rules.{rules}
 use Rattle.making.proofs.plans.with_room.Goals as goal
 
 pub returns-then-room-length : goal.returns-then-room-length

@@ -1,6 +1,5 @@
 use Rattle.dayfile.specs.Making.{entry_bytes}
 use Rattle.text.proofs.Writing.{wrote_then}
-use borrow.Author.Rules.{rules}
 use Rattle.making.proofs.writing.write_entry.Goals as goal
 
 pub returns : goal.returns

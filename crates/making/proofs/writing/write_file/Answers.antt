@@ -4,7 +4,6 @@ use native.Mathlib.Omega.{arith}
 use Rattle.dayfile.proofs.Made.{made_by}
 use Rattle.text.proofs.Writing.{wrote_then}
 use Rattle.making.proofs.Written.{wrote_as}
-use borrow.Author.Rules.{rules}
 use Rattle.making.proofs.writing.write_file.Goals as goal
 
 pub returns : goal.returns

@@ -1,7 +1,6 @@
 use mathlib.Core.Path.{refl}
 use Rattle.text.proofs.Writing.{wrote_then}
 use Rattle.making.proofs.Written.{wrote_as, header_by}
-use borrow.Author.Rules.{rules}
 use Rattle.making.proofs.writing.write_header.Goals as goal
 
 pub returns : goal.returns

@@ -1,5 +1,4 @@
 use Rattle.making.proofs.Written.{wrote_whole}
-use borrow.Author.Rules.{rules}
 use Rattle.making.proofs.writing.write_section.Goals as goal
 
 pub returns : goal.returns

@@ -2,7 +2,6 @@ use native.Mathlib.Omega.{arith}
 use lib.ListN.{length-set}
 use Rattle.numbers.specs.Bytes.{u32_bytes}
 use Rattle.text.proofs.Writing.{wrote_stores}
-use borrow.Author.Rules.{rules}
 use Rattle.making.proofs.writing.write_u32.Goals as goal
 
 pub bounds-out-1 : goal.bounds-out-1

@@ -1,5 +1,5 @@
 -- Of none that is left the first is none.
-use Rattle.std.proofs.Common.{eqb, rules, eqb-true}
+use Rattle.std.proofs.Common.{eqb, eqb-true}
 use Rattle.numbers.proofs.Truth.{and_left, and_right}
 use Rattle.pairs.proofs.Listing.{first_of-none}
 use Rattle.pairs.proofs.first.first_in.Goals as goal

@@ -1,5 +1,5 @@
 -- Four places for each record start empty.
-use Rattle.std.proofs.Common.{lit≤, rules}
+use Rattle.std.proofs.Common.{lit≤}
 use Rattle.pairs.proofs.Trees.{zeros}
 use Rattle.pairs.proofs.Spots.{places_in, sixteenth_in}
 use Rattle.pairs.proofs.first.first_of_most.Goals as goal

@@ -1,5 +1,5 @@
 -- The records that are looked at have keys; the first answer that comes is right for them.
-use Rattle.std.proofs.Common.{◌∙◌, arith, rules}
+use Rattle.std.proofs.Common.{◌∙◌, arith}
 use Rattle.numbers.specs.Folds.{first}
 use Rattle.numbers.proofs.Chain.{by_one}
 use Rattle.pairs.proofs.Listing.{found_first}

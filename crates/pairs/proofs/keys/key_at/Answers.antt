@@ -1,5 +1,5 @@
 -- A record with an index below their number ends within the list, and its key is that of the bytes cut out at its place.
-use Rattle.std.proofs.Common.{sym, ◌∙◌, arith, rules}
+use Rattle.std.proofs.Common.{sym, ◌∙◌, arith}
 use native.Mathlib.Nat.{add-sub_cancel_left}
 use Rattle.pairs.proofs.Records.{key_here}
 use Rattle.pairs.proofs.Rooms.{record_ends}

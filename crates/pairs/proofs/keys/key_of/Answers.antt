@@ -1,5 +1,5 @@
 -- By the key's width, which makes the record long enough for the one or two numbers that are read.
-use Rattle.std.proofs.Common.{◌≤◌, length, arith, rules}
+use Rattle.std.proofs.Common.{◌≤◌, length, arith}
 use Rattle.pairs.proofs.keys.key_of.Goals as goal
 
 pub u32_at-requires : goal.u32_at-requires

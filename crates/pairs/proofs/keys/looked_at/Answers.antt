@@ -1,5 +1,5 @@
 -- By whether a record is as long as its key; where it is, its size is not 0, since every key has bytes, and the records can be counted.
-use Rattle.std.proofs.Common.{arith, rules}
+use Rattle.std.proofs.Common.{arith}
 use Rattle.pairs.proofs.Records.{looked-none, looked-some}
 use Rattle.pairs.proofs.Rooms.{width_pos}
 use Rattle.pairs.proofs.keys.looked_at.Goals as goal

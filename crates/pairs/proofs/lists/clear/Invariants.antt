@@ -1,7 +1,5 @@
 -- At place a all places before it are empty; past the end there is nothing.
-use Rattle.std.proofs.Common.{◌≡◌, ℕ, ◌+◌, ◌-◌, ◌<◌, ◌≤◌, List, length, get_or, set, refl, ◌∙◌, ⊎_elim, le_of_suc-le-suc, eq-or-lt_of_le, add-one, arith, length-set, get_or-set_other, get_or-set_same, rules}
-use native.Mathlib.Decide.{dec_lt}
-use lib.ListN.{get_or-eq_default}
+use Rattle.std.proofs.Common.{◌≡◌, ℕ, ◌-◌, ◌<◌, ◌≤◌, length, get_or}
 use Rattle.pairs.proofs.lists.clear.Given as goal
 
 abbrev pub invariant-loop-u : goal.invariant-loop-u

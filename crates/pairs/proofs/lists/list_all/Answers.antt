@@ -1,5 +1,4 @@
-use Rattle.std.proofs.Common.{◌≡◌, ◌-◌, ◌≤◌, length, refl, arith, length-set, rules}
-use Rattle.numbers.specs.Folds.{Filled}
+use Rattle.std.proofs.Common.{refl, arith, length-set}
 use Rattle.numbers.proofs.Filled.{filled_none, filled_more}
 use Rattle.pairs.proofs.lists.list_all.Goals as goal
 

@@ -1,7 +1,6 @@
 -- At u the first u entries are listed.
-use Rattle.std.proofs.Common.{◌≡◌, ◌-◌, ◌≤◌, length, refl, arith, length-set, rules}
+use Rattle.std.proofs.Common.{◌≡◌, ◌-◌, ◌≤◌, length}
 use Rattle.numbers.specs.Folds.{Filled}
-use Rattle.numbers.proofs.Filled.{filled_none, filled_more}
 use Rattle.pairs.proofs.lists.list_all.Given as goal
 
 abbrev pub invariant-loop-u : goal.invariant-loop-u

@@ -1,9 +1,7 @@
-use Rattle.std.proofs.Common.{◌≡◌, ◌-◌, ◌≤◌, sym, arith, rules}
-use Rattle.numbers.specs.Folds.{first, repeating}
-use Rattle.numbers.specs.declared.Found.TheVariants.{Nothing}
+use Rattle.std.proofs.Common.{sym, arith}
+use Rattle.numbers.specs.Folds.{first}
 use Rattle.numbers.proofs.Chain.{at-end}
 use Rattle.numbers.proofs.Searches.{first-none, first_more, first-here}
-use Rattle.pairs.specs.Keys.{same_key_in}
 use Rattle.pairs.proofs.pairwise.first_by_pairs.Goals as goal
 
 pub loop-i-init : goal.loop-i-init

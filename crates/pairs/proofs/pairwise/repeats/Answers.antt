@@ -1,4 +1,4 @@
-use Rattle.std.proofs.Common.{◌≡◌, ◌-◌, ◌≤◌, eqb, ap₂, arith, rules}
+use Rattle.std.proofs.Common.{eqb, ap₂, arith}
 use Rattle.numbers.specs.Folds.{some}
 use Rattle.numbers.proofs.Chain.{at-end}
 use Rattle.numbers.proofs.Searches.{some_start, some_next}

@@ -1,8 +1,6 @@
 -- At j the flag says whether one of the first j records has the key.
-use Rattle.std.proofs.Common.{◌≡◌, ◌-◌, ◌≤◌, eqb, ap₂, arith, rules}
+use Rattle.std.proofs.Common.{◌≡◌, ◌-◌, ◌≤◌}
 use Rattle.numbers.specs.Folds.{some}
-use Rattle.numbers.proofs.Chain.{at-end}
-use Rattle.numbers.proofs.Searches.{some_start, some_next}
 use Rattle.pairs.specs.Keys.{same_key_in}
 use Rattle.pairs.proofs.pairwise.repeats.Given as goal
 

@@ -1,5 +1,5 @@
 -- An empty place is 0.
-use Rattle.std.proofs.Common.{rules, eq-eqb, ne_eqb}
+use Rattle.std.proofs.Common.{eq-eqb, ne_eqb}
 use Rattle.pairs.proofs.places.one_more.Goals as goal
 
 pub returns-then-held-eq0 : goal.returns-then-held-eq0

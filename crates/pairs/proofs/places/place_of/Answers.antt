@@ -1,5 +1,5 @@
 -- Numbers below 2^32 have a product that fits.
-use Rattle.std.proofs.Common.{◌/◌, ◌%◌, ◌≤◌, refl, mul-le-mul, arith, rules}
+use Rattle.std.proofs.Common.{◌/◌, ◌%◌, ◌≤◌, refl, mul-le-mul, arith}
 use Rattle.pairs.specs.Keys.{word}
 use Rattle.pairs.specs.Sifting.{place_of}
 use Rattle.pairs.proofs.places.place_of.Goals as goal

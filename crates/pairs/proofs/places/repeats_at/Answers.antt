@@ -1,8 +1,8 @@
 -- What is read is what the second place has, or the first.
-use Rattle.std.proofs.Common.{◌≡◌, ℕ, suc, ◌-◌, ◌/◌, ◌<◌, ◌≤◌, Bool, true, false, cond, eqb, List, get_or, sym, refl, ap, ◌∙◌, true≢false, arith, rules, eqb-true}
+use Rattle.std.proofs.Common.{◌≡◌, ℕ, suc, ◌-◌, ◌<◌, Bool, true, false, cond, eqb, List, get_or, sym, refl, ◌∙◌, true≢false, arith, eqb-true}
 use mathlib.Core.Bool.{false≢true}
 use borrow.Author.Tests.{eqb-false}
-use Rattle.pairs.specs.Sifting.{Holds, Another, TriedSecond, Held, kept}
+use Rattle.pairs.specs.Sifting.{TriedSecond, kept}
 use Rattle.pairs.proofs.Spots.{another}
 use Rattle.pairs.proofs.places.repeats_at.Goals as goal
 

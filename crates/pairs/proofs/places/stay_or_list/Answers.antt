@@ -1,6 +1,6 @@
 -- What is written at the place is what was there, or the record.
-use Rattle.std.proofs.Common.{◌≡◌, ℕ, ◌+◌, ◌≤◌, Bool, true, false, cond, eqb, set, refl, ap, ◌∙◌, arith, rules}
-use Rattle.pairs.specs.Sifting.{kept, more}
+use Rattle.std.proofs.Common.{ℕ, ◌+◌, ◌≤◌, Bool, true, false, cond, eqb, set, refl, ap, arith}
+use Rattle.pairs.specs.Sifting.{kept}
 use Rattle.pairs.proofs.places.stay_or_list.Goals as goal
 
 kept-few : (held i k : ℕ) → held ≤ k → i ≤ k → kept held i ≤ k

@@ -1,5 +1,5 @@
 -- Halves of 32 bits have multiples that fit.
-use Rattle.std.proofs.Common.{◌^◌, ◌<◌, refl, arith, rules}
+use Rattle.std.proofs.Common.{refl, arith}
 use lib.Bits.{xor_lt}
 use Rattle.pairs.proofs.places.stirred.Goals as goal
 

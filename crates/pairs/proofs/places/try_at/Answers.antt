@@ -1,5 +1,5 @@
 -- What is read at the place is what is there.
-use Rattle.std.proofs.Common.{◌-◌, sym, refl, ◌∙◌, arith, rules}
+use Rattle.std.proofs.Common.{◌-◌, sym, refl, ◌∙◌, arith}
 use Rattle.pairs.proofs.Spots.{another, holder}
 use Rattle.pairs.proofs.places.try_at.Goals as goal
 

@@ -1,5 +1,5 @@
 -- Where the first place has another key the second decides.
-use Rattle.std.proofs.Common.{◌≡◌, ℕ, List, get_or, sym, refl, inl, inr, arith, rules}
+use Rattle.std.proofs.Common.{◌≡◌, ℕ, List, get_or, sym, refl, inl, inr}
 use Rattle.pairs.specs.Sifting.{Another, Puts, Second}
 use Rattle.pairs.proofs.Spots.{place-below}
 use Rattle.pairs.proofs.places.try_both.Goals as goal

@@ -1,4 +1,4 @@
-use Rattle.std.proofs.Common.{◌-◌, ◌≤◌, arith, rules}
+use Rattle.std.proofs.Common.{arith}
 use Rattle.pairs.proofs.seeds.seed_of.Goals as goal
 
 pub key_at-requires : goal.key_at-requires

@@ -1,5 +1,5 @@
 -- Each listed record is one of the records.
-use Rattle.std.proofs.Common.{◌-◌, ◌≤◌, arith, rules}
+use Rattle.std.proofs.Common.{◌-◌, ◌≤◌}
 use Rattle.pairs.proofs.seeds.seed_of.Given as goal
 
 abbrev pub invariant-loop-t : goal.invariant-loop-t

@@ -1,7 +1,5 @@
-use Rattle.std.proofs.Common.{◌≡◌, ℕ, ◌-◌, ◌<◌, ◌≤◌, Bool, true, not, ◌&&◌, ◌||◌, ltb, length, refl, ◌∙◌, arith, rules, ltb-true}
+use Rattle.std.proofs.Common.{◌≡◌, ℕ, ◌<◌, Bool, true, not, ◌&&◌, ◌||◌, ltb, refl, ◌∙◌, arith, ltb-true}
 use Rattle.numbers.proofs.Truth.{and_left}
-use Rattle.pairs.specs.Keys.{key_at}
-use Rattle.pairs.specs.Sifting.{Sifts}
 use Rattle.pairs.proofs.Spots.{places_as, sixteenth_as}
 use Rattle.pairs.proofs.Turns.{sifts-sifts}
 use Rattle.pairs.proofs.sift.sift_all.Goals as goal

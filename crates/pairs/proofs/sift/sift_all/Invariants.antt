@@ -1,10 +1,7 @@
 -- What is right for those that are left at a turn is so, with what was found, for all.
-use Rattle.std.proofs.Common.{◌≡◌, ℕ, ◌-◌, ◌<◌, ◌≤◌, Bool, true, not, ◌&&◌, ◌||◌, ltb, length, refl, ◌∙◌, arith, rules, ltb-true}
-use Rattle.numbers.proofs.Truth.{and_left}
+use Rattle.std.proofs.Common.{◌≡◌, ◌-◌, true, length}
 use Rattle.pairs.specs.Keys.{key_at}
 use Rattle.pairs.specs.Sifting.{Sifts}
-use Rattle.pairs.proofs.Spots.{places_as, sixteenth_as}
-use Rattle.pairs.proofs.Turns.{sifts-sifts}
 use Rattle.pairs.proofs.sift.sift_all.Given as goal
 
 abbrev pub invariant-loop-turns : goal.invariant-loop-turns

@@ -1,6 +1,6 @@
 -- A sixteenth of the places has room for a sixteenth of what places there are.
 use Rattle.pairs.proofs.Spots.{few_of, places_few}
-use Rattle.std.proofs.Common.{arith, rules}
+use Rattle.std.proofs.Common.{arith}
 use Rattle.pairs.proofs.sift.sift_anew.Goals as goal
 
 pub sift_cleared-requires : goal.sift_cleared-requires

@@ -1,6 +1,5 @@
 -- Places that are cleared are empty; the same for keys of four bytes and of eight.
 use Rattle.pairs.proofs.Spots.{places_as}
-use Rattle.std.proofs.Common.{rules}
 use Rattle.pairs.proofs.sift.sift_cleared.Goals as goal
 
 pub sift_listed-requires : goal.sift_listed-requires

@@ -1,10 +1,7 @@
-use Rattle.std.proofs.Common.{◌≡◌, ◌-◌, ◌≤◌, Bool, true, false, length, refl, ◌∙◌, le_trans, arith, rules}
+use Rattle.std.proofs.Common.{refl, ◌∙◌, le_trans, arith}
 use mathlib.Core.Bool.{false≢true}
-use Rattle.pairs.specs.Keys.{key_at}
-use Rattle.pairs.specs.Indices.{at}
-use Rattle.pairs.specs.Sifting.{stirred_by}
-use Rattle.pairs.proofs.Spots.{spot_of, spot_below, places_as}
-use Rattle.pairs.proofs.Sifted.{Sifting, sifting_start, held_few, tried, sifted_found, sifted_all}
+use Rattle.pairs.proofs.Spots.{spot_below, places_as}
+use Rattle.pairs.proofs.Sifted.{sifting_start, held_few, tried, sifted_found, sifted_all}
 use Rattle.pairs.proofs.sift.sift_first.Goals as goal
 
 pub loop-i-init : goal.loop-i-init

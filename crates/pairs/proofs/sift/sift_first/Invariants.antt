@@ -1,11 +1,8 @@
 -- At i each of the first i records stays or is left.
-use Rattle.std.proofs.Common.{◌≡◌, ◌-◌, ◌≤◌, Bool, true, false, length, refl, ◌∙◌, le_trans, arith, rules}
-use mathlib.Core.Bool.{false≢true}
+use Rattle.std.proofs.Common.{◌≡◌, ◌-◌, ◌≤◌, length}
 use Rattle.pairs.specs.Keys.{key_at}
-use Rattle.pairs.specs.Indices.{at}
-use Rattle.pairs.specs.Sifting.{stirred_by}
-use Rattle.pairs.proofs.Spots.{spot_of, spot_below, places_as}
-use Rattle.pairs.proofs.Sifted.{Sifting, sifting_start, held_few, tried, sifted_found, sifted_all}
+use Rattle.pairs.proofs.Spots.{spot_of}
+use Rattle.pairs.proofs.Sifted.{Sifting}
 use Rattle.pairs.proofs.sift.sift_first.Given as goal
 
 abbrev pub invariant-loop-i : goal.invariant-loop-i

@@ -1,11 +1,10 @@
 -- At t each of the first t listed records stays or is left.
-use Rattle.std.proofs.Common.{◌≡◌, ◌-◌, ◌≤◌, Bool, true, false, length, refl, ◌∙◌, le_trans, arith, rules}
-use mathlib.Core.Bool.{false≢true}
+use Rattle.std.proofs.Common.{◌≡◌, ◌-◌, ◌≤◌, true, length}
 use Rattle.pairs.specs.Keys.{key_at}
 use Rattle.pairs.specs.Indices.{at}
 use Rattle.pairs.specs.Sifting.{stirred_by}
-use Rattle.pairs.proofs.Spots.{spot_of, spot_below, places_as}
-use Rattle.pairs.proofs.Sifted.{Sifting, sifting_start, held_few, tried, sifted_found, sifted_all, Ahead, ahead}
+use Rattle.pairs.proofs.Spots.{spot_of}
+use Rattle.pairs.proofs.Sifted.{Sifting, Ahead}
 use Rattle.pairs.proofs.sift.sift_listed.Given as goal
 
 abbrev pub invariant-loop-t : goal.invariant-loop-t

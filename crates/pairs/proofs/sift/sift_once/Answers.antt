@@ -1,5 +1,4 @@
 -- The same for keys of four bytes and of eight.
-use Rattle.std.proofs.Common.{rules}
 use Rattle.pairs.proofs.sift.sift_once.Goals as goal
 
 pub sift_first-requires : goal.sift_first-requires

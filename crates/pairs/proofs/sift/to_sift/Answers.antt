@@ -1,5 +1,4 @@
 -- Where all are listed none is sifted yet.
-use Rattle.std.proofs.Common.{true, false, refl, rules}
 use Rattle.pairs.proofs.Turns.{sifts-none}
 use Rattle.pairs.proofs.sift.to_sift.Goals as goal
 

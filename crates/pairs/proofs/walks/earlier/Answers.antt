@@ -1,8 +1,8 @@
 -- The records that are looked at and have a place have keys; by their number one of three trees is taken, and each answers the same.
-use Rattle.std.proofs.Common.{◌≡◌, length, rules}
+use Rattle.std.proofs.Common.{length}
 use Rattle.numbers.specs.Folds.{front}
 use Rattle.numbers.proofs.Chain.{by_one}
-use Rattle.pairs.specs.Keys.{least, looked_at}
+use Rattle.pairs.specs.Keys.{least}
 use Rattle.pairs.proofs.Rooms.{looked-least}
 use Rattle.pairs.proofs.walks.earlier.Goals as goal
 

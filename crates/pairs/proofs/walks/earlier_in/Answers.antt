@@ -1,10 +1,9 @@
-use Rattle.std.proofs.Common.{◌≡◌, ◌-◌, ◌≤◌, length, refl, arith, length-set, rules}
+use Rattle.std.proofs.Common.{refl, arith, length-set}
 use Rattle.numbers.specs.Folds.{front}
 use Rattle.numbers.proofs.Chain.{by_one, at-end}
 use Rattle.numbers.proofs.Tables.{filled}
 use Rattle.pairs.specs.Keys.{earlier_in}
-use Rattle.pairs.specs.Trees.{node_of, Tree}
-use Rattle.pairs.specs.Walks.{tree_of}
+use Rattle.pairs.specs.Trees.{node_of}
 use Rattle.pairs.proofs.Rooms.{room_for}
 use Rattle.pairs.proofs.Trees.{tree_start, tree_more, latest-here}
 use Rattle.pairs.proofs.walks.earlier_in.Goals as goal

@@ -1,14 +1,10 @@
 -- At step i the tree and the last record of each key are those of the first i records, and the first i answers stand in their places.
 -- What stands beside the record at the end of i's walk, 0 where that place is empty, is the answer for i.
-use Rattle.std.proofs.Common.{◌≡◌, ◌-◌, ◌≤◌, length, refl, arith, length-set, rules}
+use Rattle.std.proofs.Common.{◌≡◌, ◌-◌, ◌≤◌, length}
 use Rattle.numbers.specs.Folds.{front}
-use Rattle.numbers.proofs.Chain.{by_one, at-end}
-use Rattle.numbers.proofs.Tables.{filled}
 use Rattle.pairs.specs.Keys.{earlier_in}
-use Rattle.pairs.specs.Trees.{node_of, Tree}
+use Rattle.pairs.specs.Trees.{Tree}
 use Rattle.pairs.specs.Walks.{tree_of}
-use Rattle.pairs.proofs.Rooms.{room_for}
-use Rattle.pairs.proofs.Trees.{tree_start, tree_more, latest-here}
 use Rattle.pairs.proofs.walks.earlier_in.Given as goal
 
 abbrev pub invariant-loop-i : goal.invariant-loop-i

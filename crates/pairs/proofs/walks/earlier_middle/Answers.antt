@@ -1,5 +1,5 @@
 -- As many roots as there may be records, and two places below each record, fit in three times as many places; these and those for the last records start empty.
-use Rattle.std.proofs.Common.{◌*◌, arith, rules}
+use Rattle.std.proofs.Common.{◌*◌, arith}
 use Rattle.pairs.specs.Walks.{middle}
 use Rattle.pairs.proofs.Rooms.{room_in}
 use Rattle.pairs.proofs.Trees.{zeros}

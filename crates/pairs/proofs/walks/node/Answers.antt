@@ -1,5 +1,5 @@
 -- By whether the place is empty: one that is not holds one more than an index.
-use Rattle.std.proofs.Common.{arith, rules}
+use Rattle.std.proofs.Common.{arith}
 use Rattle.pairs.proofs.Trees.{node_held}
 use Rattle.pairs.proofs.walks.node.Goals as goal
 

@@ -1,5 +1,4 @@
 use Rattle.pairs.specs.Walks.{rest_of}
-use Rattle.std.proofs.Common.{rules}
 use Rattle.pairs.proofs.walks.rest_of.Goals as goal
 
 pub returns : goal.returns

@@ -1,5 +1,5 @@
 -- The 32 bits are below 2^32, so that their product with the number of roots fits, and divided by 2^32 is below the number of roots.
-use Rattle.std.proofs.Common.{mul-le-mul_left, mul-lt-mul_of_pos_right, arith, rules}
+use Rattle.std.proofs.Common.{mul-le-mul_left, mul-lt-mul_of_pos_right, arith}
 use Rattle.pairs.specs.Walks.{root_of}
 use Rattle.pairs.proofs.walks.root_of.Goals as goal
 

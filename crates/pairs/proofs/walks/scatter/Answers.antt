@@ -1,4 +1,4 @@
-use Rattle.std.proofs.Common.{refl, arith, rules}
+use Rattle.std.proofs.Common.{refl, arith}
 use Rattle.pairs.specs.Walks.{scattered}
 use Rattle.pairs.proofs.walks.scatter.Goals as goal
 

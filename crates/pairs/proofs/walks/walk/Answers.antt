@@ -1,10 +1,9 @@
-use Rattle.std.proofs.Common.{◌≡◌, suc, ◌+◌, ◌-◌, ◌*◌, ◌%◌, ◌<◌, ◌≤◌, get_or, sym, ◌∙◌, arith, rules}
+use Rattle.std.proofs.Common.{◌≡◌, suc, ◌+◌, ◌-◌, ◌*◌, ◌%◌, get_or, sym, ◌∙◌, arith}
 use Rattle.numbers.proofs.Chain.{by_one}
-use Rattle.pairs.specs.Keys.{key_at}
 use Rattle.pairs.specs.Trees.Ends.{empty, same}
 use Rattle.pairs.specs.Trees.Walk.{here}
-use Rattle.pairs.specs.Walks.{root_of, rest_of, tree_of}
-use Rattle.pairs.proofs.Trees.{Leads, leads_start, leads_on}
+use Rattle.pairs.specs.Walks.{root_of, rest_of}
+use Rattle.pairs.proofs.Trees.{leads_start, leads_on}
 use Rattle.pairs.proofs.walks.walk.Goals as goal
 
 pub key_at-x-requires : goal.key_at-x-requires

@@ -1,12 +1,9 @@
 -- At each step a walk from this place on completes the walk of record i from its root, and the place is below roots + 2 * i.
 -- The places below a record stand after its own, so that the walk goes up and ends.
-use Rattle.std.proofs.Common.{◌≡◌, suc, ◌+◌, ◌-◌, ◌*◌, ◌%◌, ◌<◌, ◌≤◌, get_or, sym, ◌∙◌, arith, rules}
-use Rattle.numbers.proofs.Chain.{by_one}
+use Rattle.std.proofs.Common.{◌≡◌, ◌+◌, ◌-◌, ◌*◌, ◌<◌, ◌≤◌, get_or}
 use Rattle.pairs.specs.Keys.{key_at}
-use Rattle.pairs.specs.Trees.Ends.{empty, same}
-use Rattle.pairs.specs.Trees.Walk.{here}
 use Rattle.pairs.specs.Walks.{root_of, rest_of, tree_of}
-use Rattle.pairs.proofs.Trees.{Leads, leads_start, leads_on}
+use Rattle.pairs.proofs.Trees.{Leads}
 use Rattle.pairs.proofs.walks.walk.Given as goal
 
 abbrev pub invariant-loop-k : goal.invariant-loop-k

@@ -1,7 +1,6 @@
 -- By the lookup: a product that is found is a line of the table, so its terms are modest and its tick is positive, as `bracket_by` asks.
 use Rattle.pricing.specs.Calls.{bracket_of}
 use Rattle.pricing.proofs.TableLines.{modest_line}
-use borrow.Author.Rules.{rules}
 use Rattle.pricing.proofs.contract.bracket.Goals as goal
 
 pub bracket_by-requires : goal.bracket_by-requires

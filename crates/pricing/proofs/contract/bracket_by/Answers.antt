@@ -1,6 +1,5 @@
 -- By the terms, and a bond's by checks 6 and 7: a price that passes them is within the limit, as `bracket_at` asks.
 use Rattle.pricing.proofs.PriceChecks.{passed, passes, fails}
-use borrow.Author.Rules.{rules}
 use Rattle.pricing.proofs.contract.bracket_by.Goals as goal
 
 pub bracket_at-requires : goal.bracket_at-requires

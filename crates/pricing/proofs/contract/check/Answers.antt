@@ -1,6 +1,5 @@
 -- By the lookup for check 4, then by checks 6 and 7 at the product's tick.
 use Rattle.pricing.specs.Checking.{check_of}
-use borrow.Author.Rules.{rules}
 use Rattle.pricing.proofs.contract.check.Goals as goal
 
 pub returns-in-Passed : goal.returns-in-Passed

@@ -11,7 +11,6 @@ use Rattle.pricing.specs.Calls.{Answer, given, refused, check, tick_value_of}
 use Rattle.products.specs.declared.table.Terms.{Terms}
 use Rattle.pricing.proofs.Rise.{value_by_rises}
 use Rattle.pricing.proofs.Checking.{allowed, by_checked}
-use borrow.Author.Rules.{rules}
 use Rattle.pricing.proofs.contract.tick_value.Goals as goal
 
 -- the answer for the terms and the tick

@@ -1,7 +1,6 @@
 -- By the lookup: a product that is found is a line of the table, so its terms are modest, as `value_by` asks.
 use Rattle.pricing.specs.Calls.{value_of}
 use Rattle.pricing.proofs.TableLines.{modest_line}
-use borrow.Author.Rules.{rules}
 use Rattle.pricing.proofs.contract.value.Goals as goal
 
 pub value_by-requires : goal.value_by-requires

@@ -1,6 +1,5 @@
 -- By the terms, then by checks 6 and 7: a price that passes them is within the limit, as each kind's formula asks.
 use Rattle.pricing.proofs.PriceChecks.{passed, passes, fails}
-use borrow.Author.Rules.{rules}
 use Rattle.pricing.proofs.contract.value_by.Goals as goal
 
 pub bill_at-requires : goal.bill_at-requires

@@ -1,10 +1,8 @@
-use Prim.Native.Nat.{◌≤◌, ◌-◌}
-use mathlib.Core.Path.{◌≡◌, ap, ◌∙◌}
+use mathlib.Core.Path.{ap, ◌∙◌}
 use native.Mathlib.Nat.{le_trans, le_antisymm}
 use native.Mathlib.Omega.{arith}
-use Rattle.pricing.specs.Rungs.{rung_at, next_of}
+use Rattle.pricing.specs.Rungs.{next_of}
 use Rattle.pricing.proofs.Climbing.{next_rung, rung_low_as, rung_bracket}
-use borrow.Author.Rules.{rules}
 use Rattle.pricing.proofs.ladder.bracket_at.Goals as goal
 
 pub loop-k-init : goal.loop-k-init

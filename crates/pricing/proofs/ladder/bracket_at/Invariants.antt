@@ -1,11 +1,7 @@
 -- At step k the ladder stands at rung k, which is low enough to climb on; the last rung gives the bracket (`rung_bracket`).
 use Prim.Native.Nat.{◌≤◌, ◌-◌}
-use mathlib.Core.Path.{◌≡◌, ap, ◌∙◌}
-use native.Mathlib.Nat.{le_trans, le_antisymm}
-use native.Mathlib.Omega.{arith}
-use Rattle.pricing.specs.Rungs.{rung_at, next_of}
-use Rattle.pricing.proofs.Climbing.{next_rung, rung_low_as, rung_bracket}
-use borrow.Author.Rules.{rules}
+use mathlib.Core.Path.{◌≡◌}
+use Rattle.pricing.specs.Rungs.{rung_at}
 use Rattle.pricing.proofs.ladder.bracket_at.Given as goal
 
 abbrev pub invariant-loop-k : goal.invariant-loop-k

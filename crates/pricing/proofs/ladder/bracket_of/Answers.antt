@@ -1,7 +1,6 @@
 -- A coupon of at most 3 and a low rung keep each product and the bracket within 64 bits.
 use native.Mathlib.Nat.{mul-le-mul}
 use native.Mathlib.Omega.{arith}
-use borrow.Author.Rules.{rules}
 use Rattle.pricing.proofs.ladder.bracket_of.Goals as goal
 
 pub overflow_mul-result : goal.overflow_mul-result

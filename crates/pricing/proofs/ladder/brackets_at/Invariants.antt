@@ -1,11 +1,7 @@
 -- At step k both ladders stand at rung k of their prices; the last rungs give the brackets (`rung_bracket`).
 use Prim.Native.Nat.{◌≤◌, ◌-◌}
-use mathlib.Core.Path.{◌≡◌, ap, ◌∙◌}
-use native.Mathlib.Nat.{le_trans, le_antisymm}
-use native.Mathlib.Omega.{arith}
-use Rattle.pricing.specs.Rungs.{rung_at, next_of}
-use Rattle.pricing.proofs.Climbing.{next_rung, rung_low_as, rung_bracket}
-use borrow.Author.Rules.{rules}
+use mathlib.Core.Path.{◌≡◌}
+use Rattle.pricing.specs.Rungs.{rung_at}
 use Rattle.pricing.proofs.ladder.brackets_at.Given as goal
 
 abbrev pub invariant-loop-k : goal.invariant-loop-k

@@ -1,4 +1,3 @@
-use borrow.Author.Rules.{rules}
 use Rattle.pricing.specs.Value.{scale}
 use Rattle.pricing.proofs.ladder.descaled.Goals as goal
 

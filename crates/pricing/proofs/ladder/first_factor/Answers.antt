@@ -1,5 +1,4 @@
 -- A price within the limit is not above that of yield 0, so the yield is taken without going below 0, and V1 is at most one whole (`first_cap`).
-use borrow.Author.Rules.{rules}
 use native.Mathlib.Omega.{arith}
 use Rattle.products.specs.Products.{price_limit}
 use Rattle.pricing.specs.Prices.{par, yield_at}

@@ -1,5 +1,3 @@
-use native.Mathlib.Omega.{arith}
-use borrow.Author.Rules.{rules}
 use Rattle.pricing.specs.Value.{scale}
 use Rattle.pricing.proofs.ladder.next_factor.Goals as goal
 

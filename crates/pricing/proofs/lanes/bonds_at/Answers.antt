@@ -1,12 +1,7 @@
-use Prim.Native.Nat.{◌-◌}
 use mathlib.Core.Path.{refl}
 use native.Mathlib.Omega.{arith}
-use lib.ListN.{get_or}
-use Rattle.pricing.specs.Rungs.{no_rung}
-use Rattle.pricing.specs.Calls.{lanes}
-use Rattle.numbers.proofs.Filled.{Done, none_done, one_more, all_done}
-use Rattle.pricing.proofs.SideBySide.{bond_of, bond_low, bonds_are, rungs_low}
-use borrow.Author.Rules.{rules}
+use Rattle.numbers.proofs.Filled.{none_done, one_more, all_done}
+use Rattle.pricing.proofs.SideBySide.{bond_low, bonds_are, rungs_low}
 use Rattle.pricing.proofs.lanes.bonds_at.Goals as goal
 
 pub loop-i-init : goal.loop-i-init

@@ -1,13 +1,10 @@
 -- At lane i the first i places hold the values by their ladders' last rungs, and those are the bond's values at their prices (`bonds_are`).
 use Prim.Native.Nat.{◌-◌}
-use mathlib.Core.Path.{refl}
-use native.Mathlib.Omega.{arith}
 use lib.ListN.{get_or}
 use Rattle.pricing.specs.Rungs.{no_rung}
 use Rattle.pricing.specs.Calls.{lanes}
-use Rattle.numbers.proofs.Filled.{Done, none_done, one_more, all_done}
-use Rattle.pricing.proofs.SideBySide.{bond_of, bond_low, bonds_are, rungs_low}
-use borrow.Author.Rules.{rules}
+use Rattle.numbers.proofs.Filled.{Done}
+use Rattle.pricing.proofs.SideBySide.{bond_of}
 use Rattle.pricing.proofs.lanes.bonds_at.Given as goal
 
 abbrev pub invariant-loop-i : goal.invariant-loop-i

@@ -1,11 +1,9 @@
 -- At lane i the first i places hold the next rungs of their ladders.
 use Prim.Native.Nat.{◌-◌}
-use mathlib.Core.Path.{refl}
 use lib.ListN.{get_or}
 use Rattle.pricing.specs.Rungs.{next_of, no_rung}
 use Rattle.pricing.specs.Calls.{lanes}
-use Rattle.numbers.proofs.Filled.{Done, none_done, one_more, all_done}
-use borrow.Author.Rules.{rules}
+use Rattle.numbers.proofs.Filled.{Done}
 use Rattle.pricing.proofs.lanes.climbs.Given as goal
 
 abbrev pub invariant-loop-i : goal.invariant-loop-i

@@ -1,14 +1,6 @@
-use Prim.Native.Nat.{◌≤◌, ◌-◌}
-use Prim.Native.Nat.{ℕ}
-use mathlib.Core.List.{List}
 use native.Mathlib.Nat.{le_trans, le_antisymm}
 use native.Mathlib.Omega.{arith}
-use lib.ListN.{get_or}
-use Rattle.numbers.specs.Folds.{Filled}
-use Rattle.pricing.specs.Rungs.{rung_at, no_rung}
-use Rattle.pricing.specs.Calls.{lanes}
 use Rattle.pricing.proofs.SideBySide.{all_low, all_next}
-use borrow.Author.Rules.{rules}
 use Rattle.pricing.proofs.lanes.ladders.Goals as goal
 
 pub loop-k-init : goal.loop-k-init

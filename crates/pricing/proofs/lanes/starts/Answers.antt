@@ -1,10 +1,5 @@
-use Prim.Native.Nat.{◌-◌}
 use mathlib.Core.Path.{refl}
-use lib.ListN.{get_or}
-use Rattle.pricing.specs.Rungs.{rung_at, no_rung}
-use Rattle.pricing.specs.Calls.{lanes}
-use Rattle.numbers.proofs.Filled.{Done, none_done, one_more, all_done}
-use borrow.Author.Rules.{rules}
+use Rattle.numbers.proofs.Filled.{none_done, one_more, all_done}
 use Rattle.pricing.proofs.lanes.starts.Goals as goal
 
 pub loop-i-init : goal.loop-i-init

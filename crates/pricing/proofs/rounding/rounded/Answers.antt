@@ -1,6 +1,5 @@
 -- `rounded` meets its contract: half the divisor is added before the division.
 use mathlib.Core.Path.{sym}
-use native.Mathlib.Omega.{arith}
 use Rattle.numbers.proofs.Rounding.{nearest_half}
 use Rattle.pricing.proofs.rounding.rounded.Goals as goal
 

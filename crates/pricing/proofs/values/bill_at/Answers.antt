@@ -2,7 +2,6 @@
 use Prim.Native.Nat.{ℕ, ◌*◌, ◌-◌, ◌≤◌}
 use native.Mathlib.Nat.{mul-le-mul}
 use native.Mathlib.Omega.{arith}
-use borrow.Author.Rules.{rules}
 use Rattle.products.specs.Products.{price_limit}
 use Rattle.pricing.specs.Prices.{par, yield_at}
 use Rattle.pricing.specs.Value.{bill_dividend, bill_divisor, value_by}

@@ -1,5 +1,4 @@
 -- By the terms: each kind's formula at both prices.
-use borrow.Author.Rules.{rules}
 use Rattle.pricing.proofs.values.two_at.Goals as goal
 
 pub bill_at-requires : goal.bill_at-requires

@@ -1,6 +1,5 @@
 -- Each bracket times the face fits (`face_low`), and that product over 10^8, rounded, is the value at its price.
 use native.Mathlib.Omega.{arith}
-use borrow.Author.Rules.{rules}
 use Rattle.pricing.specs.Value.{value_by}
 use Rattle.pricing.proofs.Climbing.{face_low}
 use Rattle.pricing.proofs.values.two_bonds_at.Goals as goal

@@ -1,5 +1,4 @@
 -- By the terms: each kind has its own formula.
-use borrow.Author.Rules.{rules}
 use Rattle.pricing.proofs.values.value_at.Goals as goal
 
 pub bill_at-requires : goal.bill_at-requires

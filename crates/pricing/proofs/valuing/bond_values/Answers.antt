@@ -1,7 +1,6 @@
 -- By whether some price fails: where none does all are within the limit (`all_within`), and no value is a 0 for a refusal (`all_values`).
 use Rattle.products.specs.declared.table.Terms.TheVariants.{Bond}
 use Rattle.pricing.proofs.SideBySide.{all_within, all_values}
-use borrow.Author.Rules.{rules}
 use Rattle.pricing.proofs.valuing.bond_values.Goals as goal
 
 pub bonds_at-requires : goal.bonds_at-requires

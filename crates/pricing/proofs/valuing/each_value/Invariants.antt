@@ -1,12 +1,10 @@
 -- At lane i the first i places hold the values at their prices, 0 where a price fails.
 use Prim.Native.Nat.{◌-◌}
-use mathlib.Core.Path.{refl}
 use lib.ListN.{get_or}
 use Rattle.pricing.specs.Value.{value_by}
 use Rattle.pricing.specs.Checking.{price_checked, if_passed}
 use Rattle.pricing.specs.Calls.{lanes}
-use Rattle.numbers.proofs.Filled.{Done, none_done, one_more, all_done}
-use borrow.Author.Rules.{rules}
+use Rattle.numbers.proofs.Filled.{Done}
 use Rattle.pricing.proofs.valuing.each_value.Given as goal
 
 abbrev pub invariant-loop-i : goal.invariant-loop-i

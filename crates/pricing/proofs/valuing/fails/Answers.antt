@@ -1,4 +1,3 @@
-use borrow.Author.Rules.{rules}
 use Rattle.pricing.proofs.valuing.fails.Goals as goal
 
 pub returns-in-Passed : goal.returns-in-Passed

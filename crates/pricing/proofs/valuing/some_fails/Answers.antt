@@ -1,13 +1,9 @@
-use Prim.Native.Nat.{◌≤◌, ◌-◌}
-use mathlib.Core.Path.{◌≡◌}
 use native.Mathlib.Omega.{arith}
 use lib.ListN.{get_or}
 use Rattle.numbers.specs.Folds.{some}
 use Rattle.numbers.proofs.Chain.{at-end}
 use Rattle.numbers.proofs.Searches.{some_start, some_next}
 use Rattle.pricing.specs.Checking.{price_checked, is_failed}
-use Rattle.pricing.specs.Calls.{lanes}
-use borrow.Author.Rules.{rules}
 use Rattle.pricing.proofs.valuing.some_fails.Goals as goal
 
 pub loop-i-init : goal.loop-i-init

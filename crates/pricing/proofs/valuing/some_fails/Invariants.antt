@@ -1,14 +1,10 @@
 -- At lane i `bad` says whether one of the first i prices fails.
 use Prim.Native.Nat.{◌≤◌, ◌-◌}
 use mathlib.Core.Path.{◌≡◌}
-use native.Mathlib.Omega.{arith}
 use lib.ListN.{get_or}
 use Rattle.numbers.specs.Folds.{some}
-use Rattle.numbers.proofs.Chain.{at-end}
-use Rattle.numbers.proofs.Searches.{some_start, some_next}
 use Rattle.pricing.specs.Checking.{price_checked, is_failed}
 use Rattle.pricing.specs.Calls.{lanes}
-use borrow.Author.Rules.{rules}
 use Rattle.pricing.proofs.valuing.some_fails.Given as goal
 
 abbrev pub invariant-loop-i : goal.invariant-loop-i

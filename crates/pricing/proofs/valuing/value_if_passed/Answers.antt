@@ -1,6 +1,5 @@
 -- By checks 6 and 7: a price that passes them is within the limit, as `value_at` asks.
 use Rattle.pricing.proofs.PriceChecks.{passed}
-use borrow.Author.Rules.{rules}
 use Rattle.pricing.proofs.valuing.value_if_passed.Goals as goal
 
 pub value_at-requires : goal.value_at-requires

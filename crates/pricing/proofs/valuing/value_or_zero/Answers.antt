@@ -4,7 +4,6 @@ use mathlib.Core.Path.{◌∙◌}
 use Rattle.pricing.specs.Calls.{value_of}
 use Rattle.pricing.proofs.TableLines.{modest_line}
 use Rattle.pricing.proofs.SideBySide.{value_if_passed-is}
-use borrow.Author.Rules.{rules}
 use Rattle.pricing.proofs.valuing.value_or_zero.Goals as goal
 
 pub value_if_passed-requires : goal.value_if_passed-requires

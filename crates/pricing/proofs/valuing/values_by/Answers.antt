@@ -1,5 +1,4 @@
 -- By the terms: a bond's values as `bond_values` works them, the others' one after the other.
-use borrow.Author.Rules.{rules}
 use Rattle.pricing.proofs.valuing.values_by.Goals as goal
 
 pub bond_values-requires : goal.bond_values-requires

@@ -3,7 +3,6 @@ use mathlib.Core.Path.{refl, ◌∙◌}
 use Rattle.numbers.proofs.Signed.{back}
 use Rattle.settlement.proofs.Sizes.{addable_as}
 use Rattle.settlement.proofs.Shares.{adds_nzd, adds_aud}
-use borrow.Author.Rules.{rules}
 use Rattle.settlement.proofs.amounts.add.Goals as goal
 
 pub plus-requires : goal.plus-requires

@@ -1,17 +1,13 @@
-use Prim.Native.Nat.{◌<◌, ◌≤◌, ◌-◌}
-use mathlib.Core.Path.{◌≡◌, refl}
-use mathlib.Core.Bool.{false}
+use Prim.Native.Nat.{◌<◌}
+use mathlib.Core.Path.{refl}
 use native.Mathlib.Omega.{arith}
-use lib.ListN.{length, length-set}
-use Rattle.numbers.specs.Folds.{Filled}
+use lib.ListN.{length-set}
 use Rattle.numbers.proofs.Filled.{filled_none, filled_more}
 use Rattle.numbers.proofs.Chain.{by_one}
 use Rattle.products.specs.Products.{currency_of}
 use Rattle.dayfile.specs.Limits.{file_limits}
-use Rattle.dayfile.specs.Records.{marks_in}
 use Rattle.dayfile.specs.declared.records.Mark.{Mark}
-use Rattle.settlement.specs.SettlingSteps.{is_nzd, nzd_at}
-use borrow.Author.Rules.{rules}
+use Rattle.settlement.specs.SettlingSteps.{is_nzd}
 use Rattle.settlement.proofs.amounts.nzds.Goals as goal
 
 pub loop-m-init : goal.loop-m-init

@@ -1,18 +1,12 @@
 -- At mark m the first m places say whether their marks are in New Zealand dollars.
 use Prim.Native.Nat.{◌≤◌, ◌-◌}
-use mathlib.Core.Path.{◌≡◌, refl}
+use mathlib.Core.Path.{◌≡◌}
 use mathlib.Core.Bool.{false}
-use native.Mathlib.Omega.{arith}
-use lib.ListN.{length, length-set}
+use lib.ListN.{length}
 use Rattle.numbers.specs.Folds.{Filled}
-use Rattle.numbers.proofs.Filled.{filled_none, filled_more}
-use Rattle.numbers.proofs.Chain.{by_one}
-use Rattle.products.specs.Products.{currency_of}
 use Rattle.dayfile.specs.Limits.{file_limits}
 use Rattle.dayfile.specs.Records.{marks_in}
-use Rattle.dayfile.specs.declared.records.Mark.{Mark}
-use Rattle.settlement.specs.SettlingSteps.{is_nzd, nzd_at}
-use borrow.Author.Rules.{rules}
+use Rattle.settlement.specs.SettlingSteps.{nzd_at}
 use Rattle.settlement.proofs.amounts.nzds.Given as goal
 
 abbrev pub invariant-loop-m : goal.invariant-loop-m

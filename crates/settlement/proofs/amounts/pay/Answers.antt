@@ -1,7 +1,6 @@
 -- The flags are those of the file's marks, and each position names one of them: so a sum by the flags is the sum of a currency's amounts.
 use Rattle.dayfile.specs.Records.{marks_in, positions_in}
 use Rattle.settlement.proofs.Shares.{pays}
-use borrow.Author.Rules.{rules}
 use Rattle.settlement.proofs.amounts.pay.Goals as goal
 
 pub returns : goal.returns

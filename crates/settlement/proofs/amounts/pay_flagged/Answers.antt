@@ -1,4 +1,3 @@
-use Prim.Native.Nat.{◌≤◌, ◌-◌}
 use mathlib.Core.Path.{◌≡◌, refl, ap, ◌∙◌}
 use native.Mathlib.Omega.{arith}
 use mathlib.Core.Bool.{false}
@@ -16,7 +15,7 @@ use Rattle.numbers.proofs.Chain.{at-end}
 use Rattle.numbers.proofs.Signed.{back}
 use Rattle.numbers.proofs.Tables.{filled, length_front}
 use Rattle.settlement.proofs.Sizes.{mark_fits, amount_asks, amount_gives, amount-small, small_as}
-use Rattle.settlement.proofs.Shares.{Summed, summed_more, summed_in}
+use Rattle.settlement.proofs.Shares.{summed_more, summed_in}
 use borrow.Author.Rules.{rules}
 use Rattle.settlement.proofs.amounts.pay_flagged.Goals as goal
 
@@ -58,8 +57,8 @@ bounds-nzd-m c = (let g = c.requires.0 in mark_fits _ _ g.0 g.1 _ (omega (arith,
 pub add-s-requires : goal.add-s-requires
 add-s-requires c =
     let paid : to_z w64 (of_z w64 c.times-x.result) ≡ amount_of (positions_in c.args.positions.now) (entry_of c.args.a.now) c.loop-i.i =
-        back c.times-x.result c.times-x.type_inv
-        ∙ amount_gives _ _ c.requires.0.0 c.requires.0.1 _ (omega (arith, c.loop-i-test.true, c.position_count-count.ensures)) c.position_at-p.ensures c.times-x.ensures in
+    back c.times-x.result c.times-x.type_inv
+    ∙ amount_gives _ _ c.requires.0.0 c.requires.0.1 _ (omega (arith, c.loop-i-test.true, c.position_count-count.ensures)) c.position_at-p.ensures c.times-x.ensures in
     let at = c.loop-i in
     let q = c.position_count-count.ensures in
     let g = c.requires.0 in
@@ -81,8 +80,8 @@ loop-i-smaller c = omega arith
 pub loop-i-preserved : goal.loop-i-preserved
 loop-i-preserved c =
     let paid : to_z w64 (of_z w64 c.times-x.result) ≡ amount_of (positions_in c.args.positions.now) (entry_of c.args.a.now) c.loop-i.i =
-        back c.times-x.result c.times-x.type_inv
-        ∙ amount_gives _ _ c.requires.0.0 c.requires.0.1 _ (omega (arith, c.loop-i-test.true, c.position_count-count.ensures)) c.position_at-p.ensures c.times-x.ensures in
+    back c.times-x.result c.times-x.type_inv
+    ∙ amount_gives _ _ c.requires.0.0 c.requires.0.1 _ (omega (arith, c.loop-i-test.true, c.position_count-count.ensures)) c.position_at-p.ensures c.times-x.ensures in
     let at = c.loop-i in
     let q = c.position_count-count.ensures in
     let ps = positions_in c.args.positions.now in

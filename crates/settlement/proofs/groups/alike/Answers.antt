@@ -1,5 +1,4 @@
 use Rattle.settlement.specs.Groups.{alike_in}
-use borrow.Author.Rules.{rules}
 use Rattle.settlement.proofs.groups.alike.Goals as goal
 
 pub returns : goal.returns

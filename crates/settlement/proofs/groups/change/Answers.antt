@@ -5,7 +5,6 @@ use Rattle.numbers.proofs.Signed.{back}
 use Rattle.settlement.specs.Groups.{last_of}
 use Rattle.settlement.proofs.Changes.{change_by}
 use Rattle.settlement.proofs.Pricing.{by_value_or_zero}
-use borrow.Author.Rules.{rules}
 use Rattle.settlement.proofs.groups.change.Goals as goal
 
 pub difference-requires : goal.difference-requires

@@ -5,7 +5,6 @@ use Rattle.numbers.proofs.Chain.{by_two}
 use mathlib.Core.Path.{◌∙◌}
 use Rattle.numbers.proofs.Signed.{back}
 use Rattle.settlement.proofs.Pricing.{by_value_or_zero}
-use borrow.Author.Rules.{rules}
 use Rattle.settlement.proofs.groups.change_between.Goals as goal
 
 pub difference-requires : goal.difference-requires

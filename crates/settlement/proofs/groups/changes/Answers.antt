@@ -1,11 +1,9 @@
-use Prim.Native.Nat.{◌-◌}
 use mathlib.Core.Path.{refl, ◌∙◌}
 use native.Mathlib.Omega.{arith}
 use Rattle.dayfile.specs.Records.{marks_in, corrections_in}
 use Rattle.settlement.specs.SettlingSteps.{changes_of}
 use Rattle.settlement.specs.Groups.{last_of}
-use Rattle.settlement.proofs.Grouping.{Reached, reached_none, reached_more, reached_all, changes_by}
-use borrow.Author.Rules.{rules}
+use Rattle.settlement.proofs.Grouping.{reached_none, reached_more, reached_all, changes_by}
 use Rattle.settlement.proofs.groups.changes.Goals as goal
 
 pub finals-requires : goal.finals-requires

@@ -1,13 +1,10 @@
 -- At mark i the entries of the marks before it, those flagged as done and those past the last mark are right. A step makes entry i right,
 -- and keeps right what was.
 use Prim.Native.Nat.{◌-◌}
-use mathlib.Core.Path.{refl, ◌∙◌}
-use native.Mathlib.Omega.{arith}
-use Rattle.dayfile.specs.Records.{marks_in, corrections_in}
+use Rattle.dayfile.specs.Records.{marks_in}
 use Rattle.settlement.specs.SettlingSteps.{changes_of}
 use Rattle.settlement.specs.Groups.{last_of}
-use Rattle.settlement.proofs.Grouping.{Reached, reached_none, reached_more, reached_all, changes_by}
-use borrow.Author.Rules.{rules}
+use Rattle.settlement.proofs.Grouping.{Reached}
 use Rattle.settlement.proofs.groups.changes.Given as goal
 
 abbrev pub invariant-loop-i : goal.invariant-loop-i

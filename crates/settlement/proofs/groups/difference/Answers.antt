@@ -4,7 +4,6 @@ use native.Mathlib.Omega.{arith}
 use lib.IntN.{pos}
 use mir.Facts.{to_z-of_z}
 use Rattle.numbers.proofs.Signed.{fits, plain, size_sub}
-use borrow.Author.Rules.{rules}
 use Rattle.settlement.proofs.groups.difference.Goals as goal
 
 pub overflow_sub-result : goal.overflow_sub-result

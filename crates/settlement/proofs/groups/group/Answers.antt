@@ -1,10 +1,7 @@
-use Prim.Native.Nat.{◌≤◌, ◌<◌, ◌-◌}
 use native.Mathlib.Nat.{le_trans}
 use native.Mathlib.Omega.{arith}
 use Rattle.dayfile.specs.Records.{marks_in}
-use Rattle.settlement.specs.Groups.{group_size, Grouped}
 use Rattle.settlement.proofs.Grouping.{grouped_one, grouped_more}
-use borrow.Author.Rules.{rules}
 use Rattle.settlement.proofs.groups.group.Goals as goal
 
 pub overflow_add-j : goal.overflow_add-j

@@ -1,11 +1,7 @@
 -- At mark j all four places name marks below n of the product of mark i, the first of them i itself; a store at a later place keeps that.
 use Prim.Native.Nat.{◌≤◌, ◌<◌, ◌-◌}
-use native.Mathlib.Nat.{le_trans}
-use native.Mathlib.Omega.{arith}
 use Rattle.dayfile.specs.Records.{marks_in}
 use Rattle.settlement.specs.Groups.{group_size, Grouped}
-use Rattle.settlement.proofs.Grouping.{grouped_one, grouped_more}
-use borrow.Author.Rules.{rules}
 use Rattle.settlement.proofs.groups.group.Given as goal
 
 abbrev pub invariant-loop-j : goal.invariant-loop-j

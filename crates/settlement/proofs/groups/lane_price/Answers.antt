@@ -2,7 +2,6 @@
 use native.Mathlib.Omega.{arith}
 use borrow.Author.Tests.{lt-ltb, le-ltb}
 use Rattle.settlement.specs.Groups.{group_size}
-use borrow.Author.Rules.{rules}
 use Rattle.settlement.proofs.groups.lane_price.Goals as goal
 
 pub offset_bounds-finals-m : goal.offset_bounds-finals-m

@@ -1,10 +1,5 @@
-use Prim.Native.Nat.{◌-◌}
 use mathlib.Core.Path.{refl}
-use Rattle.dayfile.specs.Records.{marks_in}
-use Rattle.pricing.specs.Calls.{lanes}
-use Rattle.numbers.proofs.Filled.{Done, none_done, one_more, all_done}
-use Rattle.settlement.specs.Groups.{lane_price}
-use borrow.Author.Rules.{rules}
+use Rattle.numbers.proofs.Filled.{none_done, one_more, all_done}
 use Rattle.settlement.proofs.groups.lane_prices.Goals as goal
 
 pub loop-k-init : goal.loop-k-init

@@ -1,11 +1,9 @@
 -- At lane k the first k places hold the prices of their lanes.
 use Prim.Native.Nat.{◌-◌}
-use mathlib.Core.Path.{refl}
 use Rattle.dayfile.specs.Records.{marks_in}
 use Rattle.pricing.specs.Calls.{lanes}
-use Rattle.numbers.proofs.Filled.{Done, none_done, one_more, all_done}
+use Rattle.numbers.proofs.Filled.{Done}
 use Rattle.settlement.specs.Groups.{lane_price}
-use borrow.Author.Rules.{rules}
 use Rattle.settlement.proofs.groups.lane_prices.Given as goal
 
 abbrev pub invariant-loop-k : goal.invariant-loop-k

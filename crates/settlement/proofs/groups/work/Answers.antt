@@ -1,14 +1,12 @@
 -- Three ways: an entry that is done is right already, a bond's is worked with its group, and any other is written as its mark's change.
 use mathlib.Core.Path.{sym, ◌∙◌}
 use native.Mathlib.Nat.{le_trans}
-use native.Mathlib.Omega.{arith}
 use Rattle.dayfile.specs.Records.{marks_in}
 use Rattle.numbers.proofs.Signed.{back}
 use Rattle.settlement.specs.SettlingSteps.{changes_of}
 use Rattle.settlement.specs.Groups.{last_of}
 use Rattle.settlement.proofs.Changes.{change_at}
 use Rattle.settlement.proofs.Grouping.{works_one, works_done}
-use borrow.Author.Rules.{rules}
 use Rattle.settlement.proofs.groups.work.Goals as goal
 
 pub bounds-done-i : goal.bounds-done-i

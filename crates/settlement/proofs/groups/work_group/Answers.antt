@@ -6,19 +6,17 @@ use Rattle.dayfile.specs.declared.records.Mark.{Mark}
 use Rattle.settlement.specs.SettlingSteps.{changes_of}
 use Rattle.settlement.specs.Groups.{last_of}
 use Rattle.settlement.proofs.Grouping.{in_file, lanes_capped, lanes_right, works}
-use borrow.Author.Rules.{rules}
 use Rattle.settlement.proofs.groups.work_group.Goals as goal
 
 pub lane_prices-p-requires : goal.lane_prices-p-requires
 lane_prices-p-requires c = in_file c.requires.0.1 c.requires.2
 
 pub write_group-requires : goal.write_group-requires
-write_group-requires c =
-    (
-      in_file c.requires.0.1 c.requires.2,
-      lanes_capped (marks_in c.args.marks.now) c.args.finals.now c.requires.0.1 c.requires.1 c.requires.2
-          (ap (λ (m : Mark). m.code) c.mark_at.ensures) c.lane_prices-p.ensures c.values_or_zero-v.ensures,
-    )
+write_group-requires c = (
+  in_file c.requires.0.1 c.requires.2,
+  lanes_capped (marks_in c.args.marks.now) c.args.finals.now c.requires.0.1 c.requires.1 c.requires.2
+      (ap (λ (m : Mark). m.code) c.mark_at.ensures) c.lane_prices-p.ensures c.values_or_zero-v.ensures,
+)
 
 pub returns : goal.returns
 returns c =

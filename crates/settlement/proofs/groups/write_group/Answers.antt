@@ -1,12 +1,10 @@
-use Prim.Native.Nat.{◌≤◌, ◌-◌}
-use mathlib.Core.Path.{◌≡◌, refl, ◌∙◌}
+use mathlib.Core.Path.{refl, ◌∙◌}
 use mathlib.Core.Bool.{true}
 use native.Mathlib.Omega.{arith}
 use Rattle.numbers.proofs.Signed.{back}
 use Rattle.numbers.proofs.Chain.{at-end}
-use Rattle.settlement.specs.Groups.{group_size, lanes_change, set_all}
+use Rattle.settlement.specs.Groups.{lanes_change, set_all}
 use Rattle.settlement.proofs.Grouping.{set-none, set_more}
-use borrow.Author.Rules.{rules}
 use Rattle.settlement.proofs.groups.write_group.Goals as goal
 
 pub loop-k-init : goal.loop-k-init

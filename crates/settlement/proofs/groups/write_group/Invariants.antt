@@ -1,13 +1,8 @@
 -- At k the changes of the group's first k marks are stored, one after the other, and so are their flags.
 use Prim.Native.Nat.{◌≤◌, ◌-◌}
-use mathlib.Core.Path.{◌≡◌, refl, ◌∙◌}
+use mathlib.Core.Path.{◌≡◌}
 use mathlib.Core.Bool.{true}
-use native.Mathlib.Omega.{arith}
-use Rattle.numbers.proofs.Signed.{back}
-use Rattle.numbers.proofs.Chain.{at-end}
 use Rattle.settlement.specs.Groups.{group_size, lanes_change, set_all}
-use Rattle.settlement.proofs.Grouping.{set-none, set_more}
-use borrow.Author.Rules.{rules}
 use Rattle.settlement.proofs.groups.write_group.Given as goal
 
 abbrev pub invariant-loop-k : goal.invariant-loop-k

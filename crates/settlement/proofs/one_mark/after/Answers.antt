@@ -1,6 +1,5 @@
 -- By the correction: one of another mark, or with a lower number than the one that decides, changes nothing; any other decides now.
 use Rattle.settlement.proofs.OneMark.{after-other, after_kept, after_taken}
-use borrow.Author.Rules.{rules}
 use Rattle.settlement.proofs.one_mark.after.Goals as goal
 
 pub returns-then-c-m : goal.returns-then-c-m

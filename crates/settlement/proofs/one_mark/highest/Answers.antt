@@ -1,10 +1,8 @@
-use Prim.Native.Nat.{◌≤◌, ◌-◌}
-use mathlib.Core.Path.{◌≡◌, ap, ◌∙◌}
+use mathlib.Core.Path.{ap, ◌∙◌}
 use native.Mathlib.Omega.{arith}
 use Rattle.numbers.proofs.Chain.{at-end}
 use Rattle.dayfile.specs.Records.{corrections_in}
 use Rattle.settlement.specs.Prices.{highest_of}
-use Rattle.settlement.specs.OneMark.{highest_in}
 use Rattle.settlement.proofs.OneMark.{none_yet, one_more}
 use borrow.Author.Rules.{rules}
 use Rattle.settlement.proofs.one_mark.highest.Goals as goal

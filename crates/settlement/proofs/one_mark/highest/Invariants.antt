@@ -1,13 +1,9 @@
 -- After k corrections d is the highest-numbered one of the first k that names the mark, if there is one.
 use Prim.Native.Nat.{◌≤◌, ◌-◌}
-use mathlib.Core.Path.{◌≡◌, ap, ◌∙◌}
-use native.Mathlib.Omega.{arith}
-use Rattle.numbers.proofs.Chain.{at-end}
+use mathlib.Core.Path.{◌≡◌}
 use Rattle.dayfile.specs.Records.{corrections_in}
 use Rattle.settlement.specs.Prices.{highest_of}
 use Rattle.settlement.specs.OneMark.{highest_in}
-use Rattle.settlement.proofs.OneMark.{none_yet, one_more}
-use borrow.Author.Rules.{rules}
 use Rattle.settlement.proofs.one_mark.highest.Given as goal
 
 abbrev pub invariant-loop-k : goal.invariant-loop-k

@@ -1,7 +1,6 @@
 -- By what the file is judged to be: a refusal is passed on, and a passed file's sections are its lists of marks and corrections.
 use mathlib.Core.Path.{refl}
 use Rattle.settlement.proofs.OneMark.{mark_answered, sections_answer}
-use borrow.Author.Rules.{rules}
 use Rattle.settlement.proofs.one_mark.mark.Goals as goal
 
 pub returns-in-Refused : goal.returns-in-Refused

@@ -8,7 +8,6 @@ use borrow.Author.Tests.{le-leb, lt-leb}
 use Rattle.numbers.proofs.Signed.{back}
 use Rattle.dayfile.specs.Records.{marks_in, corrections_in}
 use Rattle.settlement.proofs.OneMark.{mark-priced}
-use borrow.Author.Rules.{rules}
 use Rattle.settlement.proofs.one_mark.prices.Goals as goal
 
 pub returns-then-mark_count-m : goal.returns-then-mark_count-m

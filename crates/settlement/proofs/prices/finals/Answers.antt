@@ -1,13 +1,9 @@
-use Prim.Native.Nat.{◌≤◌, ◌<◌, ◌-◌}
-use mathlib.Core.Path.{◌≡◌, refl}
-use mathlib.Core.Logic.{⊎_elim}
+use mathlib.Core.Path.{refl}
 use native.Mathlib.Nat.{le_antisymm}
 use native.Mathlib.Omega.{arith}
-use lib.ListN.{length, length-set}
-use Rattle.dayfile.specs.Limits.{file_limits}
+use lib.ListN.{length-set}
 use Rattle.dayfile.specs.Records.{marks_in, corrections_in}
-use Rattle.settlement.proofs.HighestNumbered.{Standing, standing_none, standing_same, standing_more, standing_final}
-use borrow.Author.Rules.{rules}
+use Rattle.settlement.proofs.HighestNumbered.{standing_none, standing_same, standing_more, standing_final}
 use Rattle.settlement.proofs.prices.finals.Goals as goal
 use Rattle.settlement.proofs.prices.finals.Goals.{then-m-n, else-m-n}
 
@@ -53,7 +49,7 @@ loop-k-preserved c =
     let at = c.loop-k in
     let e = c.correction_at-c.ensures in
     elim c.if-m-n.branch [
-      then-m-n w ↦ (
+      | then-m-n w ↦ (
         omega arith,
         rw w.price-is (simp length-set at.invariant.1),
         rw w.number-is (simp length-set at.invariant.2),

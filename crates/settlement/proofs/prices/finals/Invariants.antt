@@ -1,15 +1,11 @@
 -- After k corrections each of the n marks has the price and the number of the highest-numbered one among them that names it, else today's
 -- price and 0.
-use Prim.Native.Nat.{◌≤◌, ◌<◌, ◌-◌}
-use mathlib.Core.Path.{◌≡◌, refl}
-use mathlib.Core.Logic.{⊎_elim}
-use native.Mathlib.Nat.{le_antisymm}
-use native.Mathlib.Omega.{arith}
-use lib.ListN.{length, length-set}
+use Prim.Native.Nat.{◌≤◌, ◌-◌}
+use mathlib.Core.Path.{◌≡◌}
+use lib.ListN.{length}
 use Rattle.dayfile.specs.Limits.{file_limits}
 use Rattle.dayfile.specs.Records.{marks_in, corrections_in}
-use Rattle.settlement.proofs.HighestNumbered.{Standing, standing_none, standing_same, standing_more, standing_final}
-use borrow.Author.Rules.{rules}
+use Rattle.settlement.proofs.HighestNumbered.{Standing}
 use Rattle.settlement.proofs.prices.finals.Given as goal
 
 abbrev pub invariant-loop-k : goal.invariant-loop-k

@@ -1,15 +1,9 @@
-use Prim.Native.Nat.{◌≤◌, ◌-◌}
-use mathlib.Core.Path.{◌≡◌, ap}
+use mathlib.Core.Path.{ap}
 use native.Mathlib.Nat.{le_trans}
 use native.Mathlib.Omega.{arith}
-use lib.ListN.{length, length-set}
-use Rattle.numbers.specs.Folds.{Filled}
+use lib.ListN.{length-set}
 use Rattle.numbers.proofs.Filled.{filled_none, filled_more}
-use Rattle.dayfile.specs.Limits.{file_limits}
-use Rattle.dayfile.specs.Records.{marks_in}
 use Rattle.dayfile.specs.declared.records.Mark.{Mark}
-use Rattle.settlement.specs.SettlingSteps.{today_of}
-use borrow.Author.Rules.{rules}
 use Rattle.settlement.proofs.prices.todays.Goals as goal
 
 pub loop-i-init : goal.loop-i-init

@@ -1,16 +1,11 @@
 -- At mark i the first i places hold their marks' prices of today.
 use Prim.Native.Nat.{◌≤◌, ◌-◌}
-use mathlib.Core.Path.{◌≡◌, ap}
-use native.Mathlib.Nat.{le_trans}
-use native.Mathlib.Omega.{arith}
-use lib.ListN.{length, length-set}
+use mathlib.Core.Path.{◌≡◌}
+use lib.ListN.{length}
 use Rattle.numbers.specs.Folds.{Filled}
-use Rattle.numbers.proofs.Filled.{filled_none, filled_more}
 use Rattle.dayfile.specs.Limits.{file_limits}
 use Rattle.dayfile.specs.Records.{marks_in}
-use Rattle.dayfile.specs.declared.records.Mark.{Mark}
 use Rattle.settlement.specs.SettlingSteps.{today_of}
-use borrow.Author.Rules.{rules}
 use Rattle.settlement.proofs.prices.todays.Given as goal
 
 abbrev pub invariant-loop-i : goal.invariant-loop-i

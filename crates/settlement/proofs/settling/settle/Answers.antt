@@ -3,7 +3,6 @@ use lib.ListN.{length}
 use mathlib.Core.Path.{refl}
 use Rattle.dayfile.proofs.Parts.{lists_are}
 use Rattle.settlement.proofs.Plans.{answered, passed_lists, refuses, lists_pass_of, settles_of}
-use borrow.Author.Rules.{rules}
 use Rattle.settlement.proofs.settling.settle.Goals as goal
 
 pub settle_records-requires : goal.settle_records-requires

@@ -9,7 +9,6 @@ use Rattle.products.specs.declared.table.Currency.TheVariants.{Aud, Nzd}
 use Rattle.settlement.proofs.Accepted.{payable, named}
 use Rattle.settlement.proofs.Plans.{settled_by}
 use Rattle.settlement.proofs.Totals.{sum_is, paid-is}
-use borrow.Author.Rules.{rules}
 use Rattle.settlement.proofs.settling.settle_accepted.Goals as goal
 
 pub changes-requires : goal.changes-requires

@@ -3,7 +3,6 @@ use mathlib.Core.Path.{refl}
 use Rattle.dayfile.proofs.Parts.{section_is}
 use Prim.Native.Nat.{◌*◌}
 use Rattle.dayfile.specs.Records.{mark_size}
-use borrow.Author.Rules.{rules}
 use Rattle.dayfile.proofs.file.DayFile.marks_in.Goals as goal
 
 pub returns : goal.returns

@@ -2,7 +2,6 @@
 use Rattle.dayfile.proofs.Parts.{section_is}
 use Prim.Native.Nat.{◌*◌}
 use Rattle.dayfile.specs.Records.{position_size}
-use borrow.Author.Rules.{rules}
 use Rattle.dayfile.proofs.file.DayFile.positions_in.Goals as goal
 
 pub returns : goal.returns
