@@ -1,6 +1,5 @@
 use mathlib.Core.Path.{ap, ◌∙◌}
 use Rattle.citronreef.specs.Numbers.{finding_of}
-use borrow.Author.Rules.{rules}
 use Rattle.citronreef.proofs.citronreef_find.Goals as goal
 
 pub returns : goal.returns

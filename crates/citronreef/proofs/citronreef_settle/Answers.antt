@@ -1,5 +1,4 @@
 use mathlib.Core.Path.{ap, ◌∙◌}
-use borrow.Author.Rules.{rules}
 use Rattle.citronreef.specs.Numbers.{outcome_of}
 use Rattle.citronreef.proofs.citronreef_settle.Goals as goal
 

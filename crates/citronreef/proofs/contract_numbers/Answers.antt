@@ -1,6 +1,5 @@
 -- By the kind of answer: a number that is given has a refused of 0 beside it, and a refusal a number of 0.
 use mathlib.Core.Path.{ap, sym}
-use borrow.Author.Rules.{rules}
 use Rattle.pricing.specs.Calls.{said}
 use Rattle.citronreef.specs.Numbers.{quote_of}
 use Rattle.citronreef.proofs.contract_numbers.Goals as goal

@@ -1,6 +1,5 @@
 -- By the kind of answer: the totals of a settlement are the cents of their currencies, and beside a refusal's two numbers all others are 0.
 use mathlib.Core.Path.{ap, sym, ◌∙◌}
-use borrow.Author.Rules.{rules}
 use mir.Syntax.{w64}
 use mir.Facts.{to_z-of_z}
 use Rattle.settlement.specs.Settling.{said}

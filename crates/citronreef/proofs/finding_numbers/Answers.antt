@@ -1,6 +1,5 @@
 -- By what is found: 1 and the index of the record, or 0 twice.
 use mathlib.Core.Path.{ap, sym}
-use borrow.Author.Rules.{rules}
 use Rattle.citronreef.specs.Numbers.{finding_of}
 use Rattle.citronreef.proofs.finding_numbers.Goals as goal
 

@@ -2,7 +2,6 @@
 use mathlib.Core.Path.{ap, sym}
 use Rattle.making.specs.Making.{said}
 use Rattle.citronreef.specs.Numbers.{making_of}
-use borrow.Author.Rules.{rules}
 use Rattle.citronreef.proofs.making_numbers.Goals as goal
 
 pub returns-in-File : goal.returns-in-File

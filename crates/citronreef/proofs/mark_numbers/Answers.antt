@@ -1,5 +1,5 @@
 -- By the kind of answer, and for a mark that is priced by whether a correction decides: 1 and its number, or 0 twice.
-use mathlib.Core.Path.{ap, sym, ◌∙◌}
+use mathlib.Core.Path.{ap, sym}
 use Rattle.settlement.specs.OneMark.{said, highest_by}
 use Rattle.citronreef.specs.Numbers.{corrects, number_of, mark_outcome_of}
 use mathlib.Core.Path.{◌≡◌, refl}

@@ -1,6 +1,5 @@
 -- By the kind of answer: the totals with the resent count, or the line of the refusal.
 use Rattle.report.specs.Sheet.{answer_text}
-use borrow.Author.Rules.{rules}
 use Rattle.report.proofs.answers.write_answer.Goals as goal
 
 pub returns-in-Settled : goal.returns-in-Settled

@@ -1,5 +1,4 @@
 use Rattle.text.proofs.Writing.{fitted_writes, writes_then}
-use borrow.Author.Rules.{rules}
 use Rattle.report.proofs.answers.write_labelled.Goals as goal
 
 pub returns : goal.returns

@@ -1,7 +1,6 @@
 -- The two labelled numbers, one after the other, are the fields of the refusal's line (`refusal_line_lem`).
 use Rattle.report.proofs.Composing.{refusal_line_lem}
 use Rattle.text.proofs.Writing.{writes_then, writes_as}
-use borrow.Author.Rules.{rules}
 use Rattle.report.proofs.answers.write_refusal.Goals as goal
 
 pub returns : goal.returns

@@ -1,6 +1,5 @@
 use Rattle.report.specs.Lines.{resent_line}
 use Rattle.text.proofs.Writing.{writes_then}
-use borrow.Author.Rules.{rules}
 use Rattle.report.proofs.answers.write_settlement.Goals as goal
 
 pub returns : goal.returns

@@ -2,7 +2,6 @@ use mathlib.Core.Path.{◌∙◌}
 use Rattle.numbers.proofs.Signed.{back}
 use Rattle.report.specs.Lines.{total_line}
 use Rattle.text.proofs.Writing.{writes_then}
-use borrow.Author.Rules.{rules}
 use Rattle.report.proofs.answers.write_totals.Goals as goal
 
 pub returns : goal.returns

@@ -5,7 +5,6 @@ use mathlib.Core.List.{[], ◌∷◌}
 use Rattle.text.specs.Decimal.{signed_decimal}
 use Rattle.text.proofs.Table.{signed_by_pairs}
 use Rattle.text.proofs.Writing.{fitted_writes, writes_then}
-use borrow.Author.Rules.{rules}
 use Rattle.report.proofs.fields.write_cents.Goals as goal
 
 pub returns : goal.returns

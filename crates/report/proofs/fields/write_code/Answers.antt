@@ -3,7 +3,6 @@ use lib.ListN.{length-set}
 use native.Mathlib.Omega.{arith}
 use mathlib.Core.List.{[], ◌∷◌}
 use Rattle.text.proofs.Writing.{no_room_writes, wrote_writes, wrote_stores}
-use borrow.Author.Rules.{rules}
 use Rattle.report.proofs.fields.write_code.Goals as goal
 
 pub returns-then-out-lt3 : goal.returns-then-out-lt3

@@ -1,7 +1,6 @@
 -- By the currency: what is written are its three letters and the newline.
 use Rattle.report.specs.Lines.{letters_of}
 use Rattle.text.proofs.Writing.{fitted_writes}
-use borrow.Author.Rules.{rules}
 use Rattle.report.proofs.fields.write_currency.Goals as goal
 
 pub returns-in-Aud : goal.returns-in-Aud

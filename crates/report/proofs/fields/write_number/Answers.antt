@@ -3,7 +3,6 @@ use mathlib.Core.List.{[], ◌∷◌}
 use Rattle.text.specs.Decimal.{decimal}
 use Rattle.text.proofs.Table.{by_pairs}
 use Rattle.text.proofs.Writing.{fitted_writes, writes_then}
-use borrow.Author.Rules.{rules}
 use Rattle.report.proofs.fields.write_number.Goals as goal
 
 pub returns : goal.returns

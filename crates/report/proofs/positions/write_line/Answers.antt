@@ -1,7 +1,6 @@
 use mir.Facts.{to_z-of_z}
 use mir.Syntax.{w64}
 use Rattle.text.proofs.Writing.{writes_then}
-use borrow.Author.Rules.{rules}
 use Rattle.report.proofs.positions.write_line.Goals as goal
 
 pub returns : goal.returns

@@ -2,7 +2,6 @@
 use native.Mathlib.Omega.{arith}
 use mir.Facts.{to_z-of_z}
 use mir.Syntax.{w64}
-use borrow.Author.Rules.{rules}
 use Rattle.report.proofs.positions.write_position.Goals as goal
 
 pub overflow_mul-p : goal.overflow_mul-p

@@ -1,11 +1,7 @@
-use Prim.Native.Nat.{◌≤◌, ◌-◌}
 use native.Mathlib.Omega.{arith}
 use mathlib.Core.Path.{◌≡◌}
-use Rattle.numbers.specs.Integers.{entry_of}
-use Rattle.dayfile.specs.Records.{marks_in, positions_in}
-use Rattle.text.specs.Writing.{Writes, texts}
+use Rattle.text.specs.Writing.{texts}
 use Rattle.text.proofs.Writing.{writes_none, writes_as, writes_more}
-use Rattle.report.specs.Lines.{line_at}
 use Rattle.report.proofs.MarkWords.{words_here, line-here}
 use borrow.Author.Rules.{rules}
 use Rattle.report.proofs.positions.write_positions.Goals as goal
@@ -15,24 +11,22 @@ unfolding texts
 loop-i-init c = (search rules, writes_none _)
 
 pub write_position-at-requires : goal.write_position-at-requires
-write_position-at-requires c =
-    (
-      c.requires.0,
-      omega arith,
-      words_here c.args.marks.now (λ i. omega (arith, c.type_inv.marks i))
-          (omega arith) c.write_words.ensures _ (c.requires.3 c.loop-i.i c.loop-i-test.true),
-    )
+write_position-at-requires c = (
+  c.requires.0,
+  omega arith,
+  words_here c.args.marks.now (λ i. omega (arith, c.type_inv.marks i))
+      (omega arith) c.write_words.ensures _ (c.requires.3 c.loop-i.i c.loop-i-test.true),
+)
 
 pub loop-i-preserved : goal.loop-i-preserved
-loop-i-preserved c =
-    (
-      search rules,
-      (writes_more _ c.loop-i.i c.loop-i.invariant.1 (writes_as
-          (line-here c.args.marks.now (λ i. omega (arith, c.type_inv.marks i))
-          (omega arith) c.write_words.ensures
-          _ (c.requires.3 c.loop-i.i c.loop-i-test.true) _ _)
-          c.write_position-at.ensures)),
-    )
+loop-i-preserved c = (
+  search rules,
+  (writes_more _ c.loop-i.i c.loop-i.invariant.1 (writes_as
+      (line-here c.args.marks.now (λ i. omega (arith, c.type_inv.marks i))
+      (omega arith) c.write_words.ensures
+      _ (c.requires.3 c.loop-i.i c.loop-i-test.true) _ _)
+      c.write_position-at.ensures)),
+)
 
 pub shape_of-out : goal.shape_of-out
 shape_of-out c = c.loop-i.invariant.1.kept

@@ -1,15 +1,10 @@
 -- At position i the lines of the first i positions are written, where there is room for them. With the words at a mark's place a line is
 -- the mark's (`line-here`).
 use Prim.Native.Nat.{◌≤◌, ◌-◌}
-use native.Mathlib.Omega.{arith}
-use mathlib.Core.Path.{◌≡◌}
 use Rattle.numbers.specs.Integers.{entry_of}
 use Rattle.dayfile.specs.Records.{marks_in, positions_in}
 use Rattle.text.specs.Writing.{Writes, texts}
-use Rattle.text.proofs.Writing.{writes_none, writes_as, writes_more}
 use Rattle.report.specs.Lines.{line_at}
-use Rattle.report.proofs.MarkWords.{words_here, line-here}
-use borrow.Author.Rules.{rules}
 use Rattle.report.proofs.positions.write_positions.Given as goal
 
 abbrev pub invariant-loop-i : goal.invariant-loop-i

@@ -4,7 +4,6 @@ use Rattle.report.proofs.WholeSheet.{sheet_no_room, sheet_written}
 use native.Mathlib.Omega.{arith}
 use lib.ListN.{length}
 use Rattle.report.proofs.Plans.{paid}
-use borrow.Author.Rules.{rules}
 use Rattle.report.proofs.sheets.sheet.Goals as goal
 
 pub returns-then-out-lt-SHEET_SIZE : goal.returns-then-out-lt-SHEET_SIZE

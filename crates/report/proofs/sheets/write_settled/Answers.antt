@@ -5,7 +5,6 @@ use Rattle.dayfile.proofs.Opening.{laid_out}
 use Rattle.dayfile.proofs.Parts.{lists_within}
 use Rattle.text.proofs.Writing.{writes_as, writes_none}
 use Rattle.report.proofs.Plans.{refused_lines, settled_lines, lines_by}
-use borrow.Author.Rules.{rules}
 use Rattle.report.proofs.sheets.write_settled.Goals as goal
 
 pub write_positions-requires : goal.write_positions-requires

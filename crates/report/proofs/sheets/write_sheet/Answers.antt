@@ -1,5 +1,4 @@
 use Rattle.text.proofs.Writing.{writes_then}
-use borrow.Author.Rules.{rules}
 use Rattle.report.proofs.sheets.write_sheet.Goals as goal
 
 pub write_settled-n-requires : goal.write_settled-n-requires

@@ -2,7 +2,6 @@
 -- words (`words_made`).
 use native.Mathlib.Omega.{arith}
 use Rattle.report.proofs.MarkWords.{words_made}
-use borrow.Author.Rules.{rules}
 use Rattle.report.proofs.words.words_of.Goals as goal
 
 pub returns : goal.returns

@@ -1,5 +1,4 @@
 use Rattle.text.proofs.Writing.{writes_then}
-use borrow.Author.Rules.{rules}
 use Rattle.report.proofs.words.write_date.Goals as goal
 
 pub returns : goal.returns

@@ -3,7 +3,6 @@ use mir.Facts.{to_z-of_z}
 use mir.Syntax.{w64}
 use Rattle.report.specs.Writers.{end_in}
 use Rattle.text.proofs.Writing.{fitted_writes, writes_then}
-use borrow.Author.Rules.{rules}
 use Rattle.report.proofs.words.write_money.Goals as goal
 
 pub returns : goal.returns

@@ -5,7 +5,6 @@ use native.Mathlib.Omega.{arith}
 use mir.Facts.{to_z-of_z}
 use mir.Syntax.{w64}
 use Rattle.report.proofs.MarkWords.{no_room, rest-written}
-use borrow.Author.Rules.{rules}
 use Rattle.report.proofs.words.write_rest.Goals as goal
 
 pub returns-then-out-lt12 : goal.returns-then-out-lt12

@@ -1,9 +1,8 @@
-use Prim.Native.Nat.{◌≤◌, ◌-◌}
 use native.Mathlib.Omega.{arith}
 use mathlib.Core.Path.{◌≡◌}
 use lib.ListN.{length}
 use Rattle.dayfile.specs.Records.{marks_in}
-use Rattle.text.specs.Writing.{Writes, texts}
+use Rattle.text.specs.Writing.{texts}
 use Rattle.text.proofs.Writing.{fitted_writes, writes_none, writes_more}
 use Rattle.report.specs.Writers.{words_at}
 use borrow.Author.Rules.{rules}
@@ -14,13 +13,12 @@ unfolding texts
 loop-i-init c = (search rules, writes_none _)
 
 pub loop-i-preserved : goal.loop-i-preserved
-loop-i-preserved c =
-    (
-      search rules,
-      (writes_more _ c.loop-i.i c.loop-i.invariant.1
-          (fitted_writes (words_at (marks_in c.args.marks.now) c.loop-i.i)
-          (rw c.words_of-words.ensures at c.write_text-at.ensures))),
-    )
+loop-i-preserved c = (
+  search rules,
+  (writes_more _ c.loop-i.i c.loop-i.invariant.1
+      (fitted_writes (words_at (marks_in c.args.marks.now) c.loop-i.i)
+      (rw c.words_of-words.ensures at c.write_text-at.ensures))),
+)
 
 pub shape_of-out : goal.shape_of-out
 shape_of-out c = c.loop-i.invariant.1.kept

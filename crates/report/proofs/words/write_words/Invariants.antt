@@ -1,13 +1,8 @@
 -- At mark i the words of the first i marks are written, one after the other, where there is room for them.
 use Prim.Native.Nat.{◌≤◌, ◌-◌}
-use native.Mathlib.Omega.{arith}
-use mathlib.Core.Path.{◌≡◌}
-use lib.ListN.{length}
 use Rattle.dayfile.specs.Records.{marks_in}
 use Rattle.text.specs.Writing.{Writes, texts}
-use Rattle.text.proofs.Writing.{fitted_writes, writes_none, writes_more}
 use Rattle.report.specs.Writers.{words_at}
-use borrow.Author.Rules.{rules}
 use Rattle.report.proofs.words.write_words.Given as goal
 
 abbrev pub invariant-loop-i : goal.invariant-loop-i
