@@ -3,7 +3,7 @@
 
   citations.py
 
-The forms are those of docs/STATEMENTS.md: `Demands.demand-1`, a law; `pricing: Value.valueBy`, a definition; `DayFile::length`,
+The forms are those of docs/STATEMENTS.md: `Demands.demand_1`, a law; `pricing: Value.value_by`, a definition; `DayFile::length`,
 `checks::find`, functions; paths; edits; and bare names, of the file that is named before, or after by "of", or of the code of
 a crate that the cell or the heading names. On a page other than STATEMENTS a bare name may stand in any crate. A word in
 backquotes that has none of these forms must be one of WORDS.
@@ -14,7 +14,7 @@ import re
 from functools import lru_cache
 from pathlib import Path
 
-from edits import QUICK, WHOLE
+from edits import FOLDER
 from require import require
 
 ROOT = Path(__file__).resolve().parent.parent
@@ -23,12 +23,13 @@ STRICT = "docs/STATEMENTS.md"
 READING = "docs/READING.md"
 PAGES = [STRICT, "docs/ASSUMPTIONS.md", "docs/CHECKS.md", "docs/DAYFILE.md", "docs/DECISIONS.md", READING, "README.md"]
 LAWS = {"Promises": "crates/pricing/proofs/Promises.antt", "Demands": "crates/settlement/proofs/Demands.antt"}
-ELSEWHERE = ("target/", "lib/", "bin/", "share/", "/", "-")  # paths of what is built or installed, and of the machine; options
+ELSEWHERE = ("target/", "out/", "lib/", "bin/", "share/", "/", "-")  # paths of what is built or installed, and of the machine; options
 COMMANDS = {"explain", "make", "sheet", "show"}  # of citronreef
 # Words that cite nothing of the repository: pieces of notation, names of other programs and languages. Nor do figures.
 WORDS = set(
-    """ensures|requires|must-fail|must-fail-quick|lib.rt|a before b|i ≡ 0|r ≡ ..|said r ≡ ..|now r ≡ ..|now (a .exit) ≡ ..|refused 7 at 0
-    |refused,NUMBER,INDEX,WORDS|950100u|@i|ir|make --anyway|Decimal|std::vector|citronreef_|memset|io|os|libc|rt|N passed, 0 failed
+    """ensures|requires|must-fail|lib.rt|a before b|i ≡ 0|result ≡ ..|said result ≡ ..|result.now ≡ ..|a.new ≡ ..|refused 7 at 0
+    |result|s.now|s.old|s.new|refused,NUMBER,INDEX,WORDS|950100u|@i|ir|make --anyway|Decimal|std::vector|citronreef_|memset|std|os|rt
+    |N passed, 0 failed
     |position 1001 XT/3/27 -40""".replace("\n    ", "").split("|")
 )
 FOR_CALLERS = [ROOT / "include/citronreef.h", *ROOT.glob("rust/citronreef/*.rs"), *ROOT.glob("python/citronreef/*.py")]
@@ -174,7 +175,7 @@ class Reader:
         return next((root / rest for root in ([] if colon else [ROOT]) + roots if (root / rest).exists()), None)
 
     def qualified(self, word):
-        """The place and the name of `pricing: Value.valueBy`, `checks: Faults`, `checks::find`, `DayFile::length` and such."""
+        """The place and the name of `pricing: Value.value_by`, `checks: Faults`, `checks::find`, `DayFile::length` and such."""
         if found := QUALIFIED.fullmatch(word):
             crate, file, name = found.groups()
             if crate:
@@ -221,7 +222,7 @@ class Reader:
             self.name_crate(word)
         elif word in LAWS:
             self.place = Place(ROOT / LAWS[word])
-        elif word in WORDS or word.startswith(ELSEWHERE) or not re.search(r"[^\W\d]", word):
+        elif word in WORDS or word.startswith(ELSEWHERE) or "/out/" in word or not re.search(r"[^\W\d]", word):
             pass
         elif word in COMMANDS and not self.strict:
             pass
@@ -232,7 +233,7 @@ class Reader:
         elif word.startswith(("bash ", "python3 ", "rt ")):
             need(word.startswith("rt ") or (ROOT / word.split()[1]).is_file(), "there is a script", word)
         elif self.is_edit(k):
-            files = [CRATES[crate] / folder / f"{word}.edit" for crate in self.crates or CRATES for folder in (WHOLE, QUICK)]
+            files = [CRATES[crate] / FOLDER / f"{word}.edit" for crate in self.crates or CRATES]
             need(any(path.exists() for path in files), "there is an edit", word)
         elif PATH.fullmatch(word):
             self.read_path(word)

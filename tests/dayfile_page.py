@@ -131,7 +131,7 @@ def check_distances():
 def check_figures():
     """Every figure is the calculator's; those with a dagger are the proved table's, all of them."""
     marked = set()
-    questions = {"valueAt": calculator.value, "tickValueAt": calculator.tick_value, "bracketAt": calculator.bracket}
+    questions = {"value_at": calculator.value, "tick_value_at": calculator.tick_value, "bracket_at": calculator.bracket}
     for code, price, *cells in rows(under(FIGURES), "code", "price", "value", "tick value", "bracket"):
         for (question, answer), cell in zip(questions.items(), cells):
             right = figure(answer(code.encode(), number(price)))
@@ -141,7 +141,7 @@ def check_figures():
     for k, cell in rows(under(VALUE), "k", "Vk"):
         right = figure(calculator.ladder(940_000, 6)[int(k) - 1])
         require(cell == right + DAGGER, "V", k)
-        marked.add(("factorAt", k, 940_000, right))
+        marked.add(("factor_at", k, 940_000, right))
     require(marked == proved_figures(), "the figures with a dagger are the proved ones")
 
 

@@ -1,6 +1,6 @@
 #!/usr/bin/env python3
-"""Says of every wrong program under must-fail and must-fail-quick whether its edit can be made: each old text stands exactly once in its
-file, as the pairs before it left the file. The gate would say so too, but only after it has proved every crate.
+"""Says of every wrong program under must-fail whether its edit can be made: each old text stands exactly once in its file, as the
+pairs before it left the file. The gate would say so too, but only after it has proved every crate.
 
   edits.py
 """
@@ -9,10 +9,7 @@ from pathlib import Path
 from require import require
 
 ROOT = Path(__file__).resolve().parent.parent
-
-# Where the wrong programs of a crate stand: those that are checked from nothing, and those that are checked over what the crate's own
-# check left.
-WHOLE, QUICK = "must-fail", "must-fail-quick"
+FOLDER = "must-fail"  # where the wrong programs of a crate stand
 
 
 def made(edit: Path) -> tuple[dict[str, str], list[str]]:
@@ -35,7 +32,7 @@ def made(edit: Path) -> tuple[dict[str, str], list[str]]:
 
 
 def main() -> None:
-    edits = sorted(edit for folder in (WHOLE, QUICK) for edit in ROOT.glob(f"crates/*/{folder}/*.edit"))
+    edits = sorted(ROOT.glob(f"crates/*/{FOLDER}/*.edit"))
     found = [misfit for edit in edits for misfit in made(edit)[1]]
     require(not found, "each old text of an edit stands once in its file", *(f"\n  {misfit}" for misfit in found))
     print(f"edits: the texts of {len(edits)} edits stand where they are said to")

@@ -139,9 +139,9 @@ bash tools/install PREFIX="$odd/prefix" >/dev/null
 prints "a C program with an odd PREFIX" "$settled" from_odd "$odd/prefix/lib/pkgconfig" ..
 prints "the Python module of an odd PREFIX" "$odd/prefix/lib/libcitronreef.so.0" \
     env PYTHONPATH="$odd/prefix/lib/python3/dist-packages" python3 -c 'import citronreef; print(citronreef._library._name)'
-mkdir -p "$odd/checkout/target/staticlib"
+mkdir -p "$odd/checkout/crates/citronreef/out"
 cp -r tools include "$odd/checkout"
-cp target/staticlib/libcitronreef.a "$odd/checkout/target/staticlib"
+cp crates/citronreef/out/libcitronreef.a "$odd/checkout/crates/citronreef/out"
 bash "$odd/checkout/tools/libraries"
 prints "a C program with an odd repository" "$settled" from_odd "$odd/checkout/target/lib" .
 mkdir "$work/with(parentheses)"
@@ -188,7 +188,7 @@ built() {
 if told=$(built /nonexistent); then fail "no Rust build without the library"; fi
 grep -q 'There is no /nonexistent/libcitronreef.a. Run `' <<<"$told" || fail "a sentence where there is no library: $told"
 ok "a Rust build without the library says what to run"
-for folder in target/staticlib ''; do
+for folder in crates/citronreef/out ''; do
     if told=$(built "$folder"); then fail "no Rust build with a folder that does not start with /"; fi
     grep -q "^ *CITRONREEF_LIB=$folder does not start with /\." <<<"$told" || fail "a sentence on a relative folder: $told"
 done

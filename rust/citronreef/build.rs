@@ -1,4 +1,4 @@
-//! Links the static library: the one that stands in CITRONREEF_LIB, or the one that `rt staticlib citronreef` writes to target.
+//! Links the static library: the one that stands in CITRONREEF_LIB, or the one that `rt lib` leaves in crates/citronreef/out.
 use std::env;
 use std::path::PathBuf;
 use std::process::exit;
@@ -22,7 +22,7 @@ fn main() {
 
 /// The folder of the library. A relative one is refused, since it would be read from this package's folder.
 fn folder() -> PathBuf {
-    let written = concat!(env!("CARGO_MANIFEST_DIR"), "/../../target/staticlib");
+    let written = concat!(env!("CARGO_MANIFEST_DIR"), "/../../crates/citronreef/out");
     let folder = env::var_os("CITRONREEF_LIB").map_or_else(|| PathBuf::from(written), PathBuf::from);
     if folder.is_relative() {
         eprintln!("CITRONREEF_LIB={} does not start with /. Name the whole path of the library's folder.", folder.display());

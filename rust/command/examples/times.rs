@@ -1,7 +1,7 @@
 //! Times `citronreef sheet` on a full day file as a process beside the Rattle program, and ends with 1 where it takes more than 1.2 times as long.
 //!
 //!     cd rust && cargo build --release
-//!     cargo run --release --example times -- ../target/bin/sheet ../target/rust/release/citronreef
+//!     cargo run --release --example times -- ../crates/sheet/out/sheet ../target/rust/release/citronreef
 
 use citronreef::records::{MAX_CORRECTIONS, MAX_MARKS, MAX_POSITIONS};
 use oracles::days::day_of;

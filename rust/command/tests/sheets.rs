@@ -11,7 +11,7 @@ use process::{run, with_input, Ran};
 use std::path::Path;
 use std::process::Command;
 
-const SHEET_PROGRAM: &str = concat!(env!("CARGO_MANIFEST_DIR"), "/../../target/bin/sheet");
+const SHEET_PROGRAM: &str = concat!(env!("CARGO_MANIFEST_DIR"), "/../../crates/sheet/out/sheet");
 const INPUT_LIMIT: usize = 65_536;
 
 fn library_sheet(file: &[u8]) -> String {
@@ -57,7 +57,7 @@ fn sheets_are_the_librarys() {
 #[test]
 fn sheets_are_the_rattle_programs() {
     if !Path::new(SHEET_PROGRAM).exists() {
-        eprintln!("no {SHEET_PROGRAM}: `rt check sheet` writes it");
+        eprintln!("no {SHEET_PROGRAM}: `rt run` in crates/sheet leaves it");
         return;
     }
     for file in files(300, 22_695_477) {

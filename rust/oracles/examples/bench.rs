@@ -1,7 +1,8 @@
 //! Times the proved library against the same job in Rust: plain pair loops, and hash tables with nothing quadratic; and for making a
 //! file, one that was made to take little time.
 //!
-//!   rt check sheet && rt staticlib citronreef && cd rust && cargo build --release --examples && cargo run --release --example bench
+//!   bash tools/build && (cd crates/sheet && rt run </dev/null)
+//!   cd rust && cargo build --release --examples && cargo run --release --example bench
 
 use citronreef::records::{u32_at, Day, MAX_CORRECTIONS, MAX_MARKS, MAX_POSITIONS, RECORD_SIZE};
 use citronreef::{make, settle, tick_value, value, write_sheet, Refusal, Settled, FILE_SIZE, SHEET_SIZE};
@@ -351,7 +352,7 @@ fn run(program: &Path, file: &[u8]) {
 /// The times of both sheet programs as processes, in microseconds: proved, and in plain Rust.
 fn process_times(day: &Day) -> [f64; 2] {
     let root = Path::new(env!("CARGO_MANIFEST_DIR")).ancestors().nth(2).expect("the crate stands in the repository");
-    let programs = [root.join("target/bin/sheet"), root.join("target/rust/release/examples/sheet")];
+    let programs = [root.join("crates/sheet/out/sheet"), root.join("target/rust/release/examples/sheet")];
     let file = day.bytes();
     medians(|k| time(|| run(&programs[k], &file))).map(|time| time / 1_000.0)
 }

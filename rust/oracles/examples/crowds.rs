@@ -1,6 +1,6 @@
 //! Times full files whose accounts were chosen against the library's search for a repeated position, beside ordinary ones.
 //!
-//!   rt staticlib citronreef && cd rust && cargo run --release --example crowds
+//!   bash tools/build && cd rust && cargo run --release --example crowds
 //!   cargo run --release --example crowds -- 2000
 //!
 //! The number is that of the rounds. All kinds take turns within each round, and each kind is timed twice: `again` is the same file in

@@ -32,7 +32,7 @@ fn c_program() {
         .args(["-std=c11", "-Wall", "-Wextra", "-Werror", "-I"])
         .arg(root.join("include"))
         .arg(crate_folder.join("tests/header.c"))
-        .arg(root.join("target/staticlib/libcitronreef.a"))
+        .arg(root.join("crates/citronreef/out/libcitronreef.a"))
         .arg("-o")
         .arg(&program)
         .status()
