@@ -4,7 +4,7 @@ use mathlib.Core.Bool.{or-false}
 use native.Mathlib.Nat.{mod-one}
 use lib.ListN.{get_or-eq_default}
 use borrow.Author.Tests.{lt-leb}
-use Rattle.products.specs.Products.{find, find_in, products, same_code_lem}
+use Rattle.products.specs.Products.{find, find_in, products, same_code}
 use Rattle.products.specs.declared.table.NamedProduct.{NamedProduct}
 use Rattle.products.specs.declared.table.NamedProduct.TheVariants.{Named, Missing}
 use Rattle.dayfile.specs.Limits.{year_limit}
@@ -45,7 +45,7 @@ unfolding mark_at
 no_mark_lem ms m h = get_or-eq_default ms (mark_of []) {n = m} h
 
 no_tick : tick_of (mark_of []).code ≡ 1
-unfolding tick_of find find_in products same_code_lem
+unfolding tick_of find find_in products same_code
 no_tick = refl
 
 module _ (ms : List Mark) (c : Correction) where

@@ -6,14 +6,14 @@ ghost use Rattle.pricing.specs.Calls.{said, value_of, tick_value_of, bracket_of}
 ghost use Rattle.report.specs.Sheet.{sheet_within, amounts_within};
 ghost use Rattle.dayfile.specs.Limits.{file_limits};
 ghost use Rattle.settlement.specs.Settling.{answer_of, amounts_after};
-ghost use Rattle.settlement.specs.Settling.{said as saidOfDay};
+ghost use Rattle.settlement.specs.Settling.{said as said_of_day};
 ghost use Rattle.settlement.specs.OneMark.{mark_answer_of};
-ghost use Rattle.settlement.specs.OneMark.{said as saidOfMark};
+ghost use Rattle.settlement.specs.OneMark.{said as said_of_mark};
 ghost use Rattle.text.specs.Writing.{Wrote};
 ghost use Rattle.citronreef.specs.Numbers.{quote_of, outcome_of, mark_outcome_of, finding_of, making_of};
 ghost use Rattle.checks.specs.Finding.{found_of};
 ghost use Rattle.making.specs.Making.{buffer_after};
-ghost use Rattle.making.specs.Making.{said as saidOfMaker, answer_of as makerAnswerOf};
+ghost use Rattle.making.specs.Making.{said as said_of_maker, answer_of as maker_answer_of};
 
 use making::Made;
 use numbers::Found;
@@ -55,7 +55,7 @@ fn contract_numbers(p: Priced) -> Quote
 }
 
 fn day_numbers(s: Settlement) -> Outcome
-    ensures { result ≡ outcome_of (saidOfDay s) }
+    ensures { result ≡ outcome_of (said_of_day s) }
 {
     match s {
         Settlement::Settled {
@@ -110,7 +110,7 @@ fn number_if(b: bool, number: u32) -> u64
 }
 
 fn mark_numbers(p: MarkPrices) -> MarkOutcome
-    ensures { result ≡ mark_outcome_of (saidOfMark p) }
+    ensures { result ≡ mark_outcome_of (said_of_mark p) }
 {
     match p {
         MarkPrices::Priced {
@@ -171,7 +171,7 @@ pub struct Making {
 }
 
 fn making_numbers(m: Made) -> Making
-    ensures { result ≡ making_of (saidOfMaker m) }
+    ensures { result ≡ making_of (said_of_maker m) }
 {
     match m {
         Made::File { length } => Making {
@@ -258,7 +258,7 @@ pub extern "C" fn citronreef_make(
     out: &mut [u8],
 ) -> Making
     ensures answer { result ≡ making_of
-        (makerAnswerOf file_limits marks.now corrections.now positions.now (length out.old)) }
+        (maker_answer_of file_limits marks.now corrections.now positions.now (length out.old)) }
     ensures written { out.new
         ≡ buffer_after file_limits marks.now corrections.now positions.now out.old }
 {

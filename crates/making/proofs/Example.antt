@@ -5,7 +5,7 @@ use lib.ListN.{replicate}
 use Rattle.numbers.specs.Bytes.{u32_at, signed, records_of, u32_bytes}
 use Rattle.numbers.specs.Folds.{first, some}
 use Rattle.numbers.specs.Checks.{decision_of}
-use Rattle.products.specs.Products.{price_limit, products, same_code_lem, find_in, find, has_month}
+use Rattle.products.specs.Products.{price_limit, products, same_code, find_in, find, has_month}
 use Rattle.dayfile.specs.Limits.{file_limits}
 use Rattle.dayfile.specs.Records.{mark_at, correction_at, position_at}
 use Rattle.dayfile.specs.Making.{counts_in, entry_bytes, header_of, made_of}
@@ -18,7 +18,7 @@ pub case_made : (answer_of file_limits marks corrections positions 84 ≡ made 8
     × (buffer_after file_limits marks corrections positions (replicate 86 9) ≡ case_file ++ (9 ∷ 9 ∷ []))
     × (answer_of file_limits marks corrections positions 83 ≡ refused 17 0)
     × (buffer_after file_limits marks corrections positions (9 ∷ 9 ∷ []) ≡ 9 ∷ 9 ∷ [])
-unfolding marks corrections positions case_file price_limit products same_code_lem find_in find has_month u32_at signed records_of u32_bytes first some mark_at correction_at position_at
+unfolding marks corrections positions case_file price_limit products same_code find_in find has_month u32_at signed records_of u32_bytes first some mark_at correction_at position_at
     listed code_has_month tick_of decision_of counts_in entry_bytes header_of made_of answer_of buffer_after
 case_made = (refl, refl, refl, refl)
 
@@ -42,6 +42,6 @@ pub refusals_in_order : (answer_of file_limits (replicate 3085 0) [] [] 0 ≡ re
     × (answer_of file_limits (replicate 13 0) [] [] 0 ≡ refused 3 0) × (answer_of file_limits (replicate 12 0) [] [] 0 ≡ refused 4 0)
     × (answer_of file_limits marks (corrections ++ replicate 1 0) positions 0 ≡ refused 3 0) × (answer_of file_limits marks corrections (positions ++ replicate 1 0) 0 ≡ refused 3 0)
     × (answer_of file_limits marks corrections (positions ++ replicate 12 0) 0 ≡ refused 13 2)
-unfolding marks corrections positions price_limit products same_code_lem find_in find has_month u32_at signed records_of u32_bytes first some mark_at correction_at position_at
+unfolding marks corrections positions price_limit products same_code find_in find has_month u32_at signed records_of u32_bytes first some mark_at correction_at position_at
     listed code_has_month tick_of decision_of counts_in entry_bytes header_of made_of answer_of
 refusals_in_order = (refl, refl, refl, refl, refl, refl, refl, refl, refl)

@@ -12,7 +12,7 @@ use Rattle.numbers.specs.Fractions.{◌minus◌, ◌times◌, Within}
 use Rattle.numbers.proofs.Rounding.{nearest_near}
 use Rattle.numbers.proofs.Nearness.{near_scale, near_cancel, near_as, near_then}
 use Rattle.numbers.proofs.Fractions.{Close, close_more, close_rounded, close_whole, multiple_within}
-use Rattle.products.specs.Products.{price_limit, products, find, same_code_lem}
+use Rattle.products.specs.Products.{price_limit, products, find, same_code}
 use Rattle.pricing.specs.Value.{scale, bill_dividend, bill_divisor, bond_divisor, value_by, exact_by, exact_of}
 use Rattle.pricing.specs.Accuracy.{twice_distance, number_in, accuracy_figures, accuracy_of}
 use Rattle.products.specs.declared.table.Code.{Code}
@@ -85,7 +85,7 @@ Roomy : Product → Type 0
 Roomy product = (previous final : ℕ) → Room product.terms product.tick (accuracy_of product.code previous final)
 
 all_roomy : Every Roomy products
-unfolding Roomy Room products scale accuracy_of accuracy_figures number_in same_code_lem
+unfolding Roomy Room products scale accuracy_of accuracy_figures number_in same_code
 all_roomy = ((λ p f. tt), ((λ p f. tt), ((λ p f. tt), ((λ p f. (tt, tt)), ((λ p f. (tt, tt)), ((λ p f. (tt, tt)), tt))))))
 
 pub product_close : (code : Code) {product : Product} → find code ≡ Named product → (previous final : ℕ) {p : ℕ} → Listed product p

@@ -10,7 +10,7 @@ use Rattle.numbers.specs.Rounding.{nearest}
 use Rattle.numbers.specs.Nearness.{Near}
 use Rattle.numbers.specs.Fractions.{scaled, ◌minus◌, ◌times◌, Within, Same}
 use Rattle.numbers.proofs.Rounding.{nearest-scale, half_up}
-use Rattle.products.specs.Products.{price_limit, YT, XT, XX, products, same_code_lem, find}
+use Rattle.products.specs.Products.{price_limit, YT, XT, XX, products, same_code, find}
 use Rattle.pricing.specs.Prices.{yield_at}
 use Rattle.numbers.specs.Sums.{sum_to}
 use Rattle.pricing.specs.Ladder.{base, factor, annuity, bracket, exact_bracket, whole_bracket}
@@ -147,7 +147,7 @@ accurate code previous final e f lots =
 
 -- The accuracy figures of the six products, whatever the prices.
 pub figures_are : (previous final : ℕ) → map (λ product. accuracy_of product.code previous final) products ≡ 1_000 ∷ 1_000 ∷ 0 ∷ 2_208 ∷ 6_100 ∷ 6_550 ∷ []
-unfolding products accuracy_of accuracy_figures number_in same_code_lem
+unfolding products accuracy_of accuracy_figures number_in same_code
 figures_are previous final = refl
 
 -- ---- sizes

@@ -1,6 +1,6 @@
 -- The distances that document 01 names: of a bond's bracket, and of the amount for each lot.
 use Rattle.std.specs.Prelude.{ℕ, ◌+◌, ◌*◌, ◌-◌, List, [], ◌∷◌, ◌++◌, cond}
-use Rattle.products.specs.Products.{IR, BB, IB, YT, XT, XX, same_code_lem}
+use Rattle.products.specs.Products.{IR, BB, IB, YT, XT, XX, same_code}
 use Rattle.products.specs.declared.table.Code.{Code}
 use Rattle.products.specs.declared.table.Product.{Product}
 use Rattle.products.specs.declared.table.Terms.{Terms}
@@ -21,7 +21,7 @@ entry a n = record { code = a; number = n }
 -- the number of the first entry with a code, 0 where there is none
 unfoldable pub number_in : List Entry → Code → ℕ
 number_in [] a = 0
-number_in (e ∷ es) a = cond (same_code_lem a e.code) e.number (number_in es a)
+number_in (e ∷ es) a = cond (same_code a e.code) e.number (number_in es a)
 
 -- twice the distance of each bond of a table
 abbrev pub distance_by : Code → Terms → List Entry

@@ -53,7 +53,7 @@ lanes = 8
 unfoldable pub values_or_zero : Code → List ℕ → List ℕ
 values_or_zero code p = table (λ i. or_zero (value_of code (get_or p i 0))) lanes
 
--- the value at p + tick minus the value at p, which is never below 0 (proofs/Promises.antt, tick-value-adds)
+-- the value at p + tick minus the value at p, which is never below 0 (proofs/Promises.antt, tick_value_adds)
 unfoldable pub tick_value_of : Code → ℕ → Answer
 tick_value_of code p =
     of_product (find code)

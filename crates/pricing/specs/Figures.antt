@@ -2,7 +2,7 @@
 use Rattle.std.specs.Prelude.{ℕ, ◌≡◌, refl, List, [], ◌∷◌, map}
 use Rattle.numbers.specs.Rounding.{nearest}
 use Rattle.numbers.specs.Sums.{sum_to}
-use Rattle.products.specs.Products.{price_limit, IR, BB, IB, YT, XT, XX, products, same_code_lem, find_in, find}
+use Rattle.products.specs.Products.{price_limit, IR, BB, IB, YT, XT, XX, products, same_code, find_in, find}
 use Rattle.pricing.specs.Prices.{par, yield_at}
 use Rattle.pricing.specs.Ladder.{factor, annuity, bracket}
 use Rattle.pricing.specs.Value.{scale, bill_dividend, bill_divisor, bond_divisor, value_by}
@@ -76,6 +76,6 @@ abbrev pub Given : List Figure → Type 0
 Given fs = map (λ f. answer_to f.question) fs ≡ map (λ f. f.answer) fs
 
 pub figures_hold : Given figures × Given further
-unfolding figures further answer_to nearest sum_to par price_limit yield_at products same_code_lem find_in find factor annuity bracket scale
+unfolding figures further answer_to nearest sum_to par price_limit yield_at products same_code find_in find factor annuity bracket scale
     bill_dividend bill_divisor bond_divisor value_by value_of tick_value_of bracket_of
 figures_hold = (refl, refl)

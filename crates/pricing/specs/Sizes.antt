@@ -3,7 +3,7 @@ use Rattle.std.specs.Prelude.{ℕ, ◌≤◌}
 use Rattle.products.specs.declared.table.Terms.{Terms}
 use Rattle.products.specs.declared.table.Terms.TheVariants.{Bill, Bond, CashRate}
 
--- no value is above this, in cents (proofs/Promises.antt, value-cap)
+-- no value is above this, in cents (proofs/Promises.antt, value_cap_lem)
 abbrev pub value_cap : ℕ
 value_cap = 500_000_000
 

@@ -11,7 +11,7 @@ use lib.Dec.{eqb}
 use lib.ListN.{length, get_or, drop}
 use lib.Seq.{drop-cons}
 use Rattle.numbers.proofs.Truth.{Tells, and_left, and_right, not_both, tells_as}
-use Rattle.products.specs.Products.{products, no_product, same_code_lem, find_in, find, Unlisted}
+use Rattle.products.specs.Products.{products, no_product, same_code, find_in, find, Unlisted}
 use Rattle.products.specs.declared.table.Code.{Code}
 use Rattle.products.specs.declared.table.Product.{Product}
 use Rattle.products.specs.declared.table.NamedProduct.{NamedProduct}
@@ -19,7 +19,7 @@ use Rattle.products.specs.declared.table.NamedProduct.TheVariants.{Named, Missin
 
 -- a search from line i on finds that line where it has the code, and else what a search from the next line on finds
 module _ (lines : List Product) (i : ℕ) (a : Code) {product : Product} {b : Bool} {f : NamedProduct}
-    (h : i < length lines) (is : product ≡ get_or lines i no_product) (test : b ≡ same_code_lem a product.code) (from : find_in (drop i lines) a ≡ f) where
+    (h : i < length lines) (is : product ≡ get_or lines i no_product) (test : b ≡ same_code a product.code) (from : find_in (drop i lines) a ≡ f) where
   pub find-here : b ≡ true → Named product ≡ f
   unfolding find_in
   find-here e = rw is (sym (rw (drop-cons lines i no_product, ← is, ← test, e)) ∙ from)
@@ -41,18 +41,18 @@ module _ (P : Product → Type 0) {product : Product} where
   pub of_found : (lines : List Product) (a : Code) → Every P lines → find_in lines a ≡ Named product → P product
   unfolding find_in
   of_found [] a h e = absurd (let z : ◌≡◌ {A = ℕ} 0 1 = cc in omega arith)
-  of_found (r ∷ lines) a h e = first (same_code_lem a r.code) h.0 (of_found lines a h.1) e
+  of_found (r ∷ lines) a h e = first (same_code a r.code) h.0 (of_found lines a h.1) e
 
 -- what is found bears the code
-same_code : (a b : Code) → same_code_lem a b ≡ true → a ≡ b
-unfolding same_code_lem
-same_code a b e =
+same_code_lem : (a b : Code) → same_code a b ≡ true → a ≡ b
+unfolding same_code
+same_code_lem a b e =
     let f = and_left (eqb a.0 b.0) (eqb a.1 b.1) e in
     let g = and_right (eqb a.0 b.0) (eqb a.1 b.1) e in
     ap₂ (λ (x y : ℕ). record { 0 = x; 1 = y }) (eqb-true _ _ f) (eqb-true _ _ g)
 
-pub same_code_self : (a : Code) → same_code_lem a a ≡ true
-unfolding same_code_lem
+pub same_code_self : (a : Code) → same_code a a ≡ true
+unfolding same_code
 same_code_self a = rw (eq-eqb a.0 a.0 refl, eq-eqb a.1 a.1 refl)
 
 module _ {product : Product} where
@@ -63,7 +63,7 @@ module _ {product : Product} where
   found-code_in : (lines : List Product) (a : Code) → find_in lines a ≡ Named product → product.code ≡ a
   unfolding find_in
   found-code_in [] a e = absurd (let z : ◌≡◌ {A = ℕ} 0 1 = cc in omega arith)
-  found-code_in (r ∷ lines) a e = found_by (same_code_lem a r.code) a r (same_code a r.code) (found-code_in lines a) e
+  found-code_in (r ∷ lines) a e = found_by (same_code a r.code) a r (same_code_lem a r.code) (found-code_in lines a) e
 
 pub found-code : (a : Code) {product : Product} → find a ≡ Named product → product.code ≡ a
 unfolding find
@@ -81,7 +81,7 @@ found_member a e = in_table products a e
 
     in_table : (lines : List Product) (a : Code) {product : Product} → find_in lines a ≡ Named product → Memᴰ product lines
     in_table [] a e = absurd (let z : ◌≡◌ {A = ℕ} 0 1 = cc in omega arith)
-    in_table (r ∷ lines) a e = here (same_code_lem a r.code) (in_table lines a) e
+    in_table (r ∷ lines) a e = here (same_code a r.code) (in_table lines a) e
 
 -- and where none is found no line has the code
 pub missing-none : (a : Code) → find a ≡ Missing → (product : Product) → Memᴰ product products → ¬ (product.code ≡ a)
@@ -95,10 +95,10 @@ missing-none a e = in_table products e
     in_table : (lines : List Product) → find_in lines a ≡ Missing → (product : Product) → Memᴰ product lines → ¬ (product.code ≡ a)
     in_table [] e product m c = absurd (Memᴰ.not-nil m)
     in_table (r ∷ lines) e product (Memᴰ.head d) c =
-        let same : same_code_lem a r.code ≡ true = rw (← d, c) (same_code_self a) in
-        let other = (later (same_code_lem a r.code) r (find_in lines a) e).0 in
+        let same : same_code a r.code ≡ true = rw (← d, c) (same_code_self a) in
+        let other = (later (same_code a r.code) r (find_in lines a) e).0 in
         absurd (let z : ◌≡◌ {A = ℕ} 0 1 = cc in omega arith)
-    in_table (r ∷ lines) e product (Memᴰ.tail m) c = in_table lines (later (same_code_lem a r.code) r (find_in lines a) e).1 product m c
+    in_table (r ∷ lines) e product (Memᴰ.tail m) c = in_table lines (later (same_code a r.code) r (find_in lines a) e).1 product m c
 
 -- ---- what a test of what was found tells of the code
 

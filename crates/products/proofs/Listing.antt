@@ -5,7 +5,7 @@ use mathlib.Core.List.{[], ◌∷◌, map, Memᴰ}
 use mathlib.Core.Logic.{◌↔◌}
 use Prim.Native.Nat.{ℕ, ◌<◌}
 use native.Mathlib.Omega.{arith}
-use Rattle.products.specs.Products.{IR, BB, IB, YT, XT, XX, products, same_code_lem, find_in, find, Unlisted, currency_of, has_month, months_below, months_of}
+use Rattle.products.specs.Products.{IR, BB, IB, YT, XT, XX, products, same_code, find_in, find, Unlisted, currency_of, has_month, months_below, months_of}
 use Rattle.products.specs.declared.table.Code.{Code}
 use Rattle.products.specs.declared.table.Currency.TheVariants.{Aud, Nzd}
 use Rattle.products.specs.declared.table.Product.{Product}
@@ -20,7 +20,7 @@ found-line code e = (found_member code e, found-code code e)
 
 -- Each line is the product that its code names.
 pub lines_found : map (λ product. find product.code) products ≡ map Named products
-unfolding products same_code_lem find_in find
+unfolding products same_code find_in find
 lines_found = refl
 
 -- A code names no product exactly where no line has it.
@@ -41,7 +41,7 @@ unfolding products
 ticks_are = refl
 
 pub currencies_are : map (λ product. currency_of product.code) products ≡ Aud ∷ Nzd ∷ Aud ∷ Aud ∷ Aud ∷ Aud ∷ []
-unfolding products same_code_lem find_in find currency_of
+unfolding products same_code find_in find currency_of
 currencies_are = refl
 
 pub months_are : map months_of products

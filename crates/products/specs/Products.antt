@@ -61,13 +61,13 @@ unfoldable pub no_product : Product
 no_product = record { code = (0, 0); terms = Bill 0 0; currency = Aud; tick = 0; months = 0 }
 
 -- two codes have the same letters
-unfoldable pub same_code_lem : Code → Code → Bool
-same_code_lem a b = eqb a.0 b.0 && eqb a.1 b.1
+unfoldable pub same_code : Code → Code → Bool
+same_code a b = eqb a.0 b.0 && eqb a.1 b.1
 
 -- the first line of a table that a code names
 unfoldable pub find_in : List Product → Code → NamedProduct
 find_in [] a = Missing
-find_in (product ∷ rest) a = cond (same_code_lem a product.code) (Named product) (find_in rest a)
+find_in (product ∷ rest) a = cond (same_code a product.code) (Named product) (find_in rest a)
 
 unfoldable pub find : Code → NamedProduct
 find a = find_in products a

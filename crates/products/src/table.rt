@@ -1,6 +1,6 @@
 // The product table, and the product that a code names.
 ghost use Rattle.std.specs.Prelude.{◌≡◌, not, eqb, ◌%◌, ◌<◌, get_or};
-ghost use Rattle.products.specs.Products.{products, no_product, same_code_lem, find, currency_of, bond_terms, is_bond, has_month};
+ghost use Rattle.products.specs.Products.{products, no_product, same_code, find, currency_of, bond_terms, is_bond, has_month};
 
 use numbers::joined;
 
@@ -121,7 +121,7 @@ fn line(i: usize) -> Product
 
 // Whether two codes have the same letters. They are compared as one number, so that the compiler searches the table by numbers.
 pub fn same_code(a: Code, b: Code) -> bool
-    ensures { result ≡ same_code_lem a b }
+    ensures { result ≡ same_code a b }
 {
     joined(a.0, a.1, 0, 0) == joined(b.0, b.1, 0, 0)
 }

@@ -3,7 +3,7 @@ use mathlib.Core.Path.{◌≡◌, refl}
 use mathlib.Core.List.{List, ◌++◌}
 use Prim.Native.Nat.{ℕ}
 use Rattle.numbers.specs.Rounding.{nearest}
-use Rattle.products.specs.Products.{price_limit, products, same_code_lem, find_in, find, currency_of, has_month}
+use Rattle.products.specs.Products.{price_limit, products, same_code, find_in, find, currency_of, has_month}
 use Rattle.pricing.specs.Prices.{par, yield_at}
 use Rattle.pricing.specs.Value.{bill_dividend, bill_divisor, value_by}
 use Rattle.pricing.specs.Calls.{value_of}
@@ -37,7 +37,7 @@ printed =
 
 -- with room for its amounts, and settled into a slice of one place
 pub case_prints : (sheet_of case_file 4096 ≡ printed) × (sheet_of case_file 1 ≡ ascii "refused 14 at 0\n")
-unfolding marks corrections positions case_file printed nearest par price_limit yield_at products same_code_lem find_in find has_month bill_dividend bill_divisor value_by value_of
+unfolding marks corrections positions case_file printed nearest par price_limit yield_at products same_code find_in find has_month bill_dividend bill_divisor value_by value_of
     u32_at signed records_of first some mark_at correction_at position_at listed code_has_month tick_of currency_of value_or_zero
     decision_of judged_of counts_of highest_of final_of change_of amount_of total_of plan_of answer_of
     texts digits_within decimal signed_decimal letters_of position_line total_line resent_line refusal_line answer_text positions_text sheet_of
@@ -46,7 +46,7 @@ case_prints = (refl, refl)
 -- a file with both currencies, and one whose second position names no mark
 pub others_print : (sheet_of two_marks 2 ≡ ascii "11 IR 3 18 24060 AUD\n" ++ ascii "12 BB 6 19 -9576 NZD\n" ++ ascii "total AUD 24060\n" ++ ascii "total NZD -9576\n" ++ ascii "resent 1\n")
     × (sheet_of no_mark 2 ≡ ascii "refused 12 at 1\n")
-unfolding two_marks u32_bytes counts_in entry_bytes header_of made_of nearest par price_limit yield_at products same_code_lem find_in find has_month bill_dividend bill_divisor value_by value_of
+unfolding two_marks u32_bytes counts_in entry_bytes header_of made_of nearest par price_limit yield_at products same_code find_in find has_month bill_dividend bill_divisor value_by value_of
     u32_at signed records_of first some mark_at correction_at position_at listed code_has_month tick_of currency_of value_or_zero
     decision_of judged_of counts_of highest_of final_of change_of amount_of total_of plan_of answer_of
     texts digits_within decimal signed_decimal letters_of position_line total_line resent_line refusal_line answer_text positions_text sheet_of

@@ -16,7 +16,7 @@ use Rattle.products.specs.Products.{currency_of}
 use Rattle.dayfile.specs.Records.{marks_in, mark_at}
 use Rattle.dayfile.specs.declared.records.Mark.{Mark}
 use Rattle.report.specs.Lines.{space, ended, position_line}
-use Rattle.report.specs.Writers.{contract_fields, line_end, padded, packed, words_at, length_in, fields_in_lem, end_in, Words, money_in, rest_in, line_with}
+use Rattle.report.specs.Writers.{contract_fields, line_end, padded, packed, words_at, length_in, fields_in, end_in, Words, money_in, rest_in, line_with}
 use Rattle.report.proofs.Composing.{position_line_lem}
 use Rattle.report.proofs.Lengths.{mark_read, letters_length}
 
@@ -58,7 +58,7 @@ module _ (f e : List ℕ) (small : length f ≤ 11) (four : length e ≡ 4) wher
         ∙ rw (here, append_assoc (padded f ++ e) (length f ∷ []) rest)
         (get_or_at (padded f ++ e) (length f) rest 0 15 before_last)
 
-    pub fields_are : fields_in_lem words at ≡ f
+    pub fields_are : fields_in words at ≡ f
     unfolding packed
     fields_are = rw (length-is, here) (simp append_assoc (take_at f _ (length f) refl))
 
@@ -117,8 +117,8 @@ module _ (t : List ℕ) (bytes : Bytes t) where
 -- ---- what stands after the account: twelve bytes, of which the fields stay, and the amount over the others
 
 module _ (words : List ℕ) (at : ℕ) (is : Words words at) (amount : ℤ) where
-  fields_in : length (fields_in_lem words at) ≡ length_in words at
-  fields_in = length-take-le _ (drop at words) (rw (length-drop at words) (omega arith))
+  fields_in_lem : length (fields_in words at) ≡ length_in words at
+  fields_in_lem = length-take-le _ (drop at words) (rw (length-drop at words) (omega arith))
 
   money : 6 ≤ length (money_in words at amount)
   money =
@@ -127,7 +127,7 @@ module _ (words : List ℕ) (at : ℕ) (is : Words words at) (amount : ℤ) wher
 
   pub no_room : (out : List ℕ) → length out < 12 → Writes (rest_in words at amount) 0 out out
   no_room out h =
-      no_room_writes _ out (rw (length-append (fields_in_lem words at) (money_in words at amount)) (omega (arith, fields_in, money)))
+      no_room_writes _ out (rw (length-append (fields_in words at) (money_in words at amount)) (omega (arith, fields_in_lem, money)))
 
   pub rest-written : {out now mid : List ℕ} {a b : ℕ} → 12 ≤ length out → Wrote (fitted (take 12 (drop at words)) out) a out now
       → Writes (money_in words at amount) b (mid_of (length_in words at) (length now - length_in words at) now) mid

@@ -36,8 +36,8 @@ words_at ms j = packed (contract_fields (mark_at ms j)) (line_end (mark_at ms j)
 abbrev pub length_in : List ℕ → ℕ → ℕ
 length_in words at = get_or words (at + 15) 0
 
-abbrev pub fields_in_lem : List ℕ → ℕ → List ℕ
-fields_in_lem words at = take (length_in words at) (drop at words)
+abbrev pub fields_in : List ℕ → ℕ → List ℕ
+fields_in words at = take (length_in words at) (drop at words)
 
 abbrev pub end_in : List ℕ → ℕ → List ℕ
 end_in words at = take 4 (drop (at + 11) words)
@@ -54,7 +54,7 @@ money_in words at amount = ended (signed_decimal amount) space ++ end_in words a
 
 -- what stands after the account
 abbrev pub rest_in : List ℕ → ℕ → ℤ → List ℕ
-rest_in words at amount = fields_in_lem words at ++ money_in words at amount
+rest_in words at amount = fields_in words at ++ money_in words at amount
 
 abbrev pub line_with : List ℕ → ℕ → ℕ → ℤ → List ℕ
 line_with words at account amount = ended (decimal account) space ++ rest_in words at amount

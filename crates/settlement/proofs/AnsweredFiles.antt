@@ -8,7 +8,7 @@ use lib.ListN.{take}
 use Rattle.numbers.specs.Rounding.{nearest}
 use Rattle.numbers.specs.Bytes.{u32_at, signed, records_of, u32_bytes}
 use Rattle.numbers.specs.Folds.{first, some}
-use Rattle.products.specs.Products.{price_limit, IR, BB, IB, products, same_code_lem, find_in, find, currency_of, has_month}
+use Rattle.products.specs.Products.{price_limit, IR, BB, IB, products, same_code, find_in, find, currency_of, has_month}
 use Rattle.pricing.specs.Prices.{par, yield_at}
 use Rattle.pricing.specs.Value.{bill_dividend, bill_divisor, value_by}
 use Rattle.pricing.specs.Calls.{value_of}
@@ -121,14 +121,14 @@ files =
     ∷ []
 
 pub files_answered : map (λ x. answer_of file_limits x.file 2) files ≡ map (λ x. x.answer) files
-unfolding files nearest par price_limit yield_at products same_code_lem find_in find has_month bill_dividend bill_divisor value_by value_of
+unfolding files nearest par price_limit yield_at products same_code find_in find has_month bill_dividend bill_divisor value_by value_of
     u32_bytes u32_at signed records_of first some mark_at correction_at position_at listed code_has_month tick_of currency_of value_or_zero
     decision_of judged_of counts_of highest_of final_of change_of amount_of total_of plan_of answer_of counts_in entry_bytes header_of made_of
 files_answered = refl
 
 -- one place for two positions: 14, but after 16
 pub room-last : (answer_of file_limits (file_of m c p) 1 ≡ refused 14 0) × (answer_of file_limits (file_of m c (three 11 0 10)) 1 ≡ refused 16 1)
-unfolding price_limit products same_code_lem find_in find has_month u32_bytes u32_at signed records_of first some mark_at correction_at position_at
+unfolding price_limit products same_code find_in find has_month u32_bytes u32_at signed records_of first some mark_at correction_at position_at
     listed code_has_month tick_of decision_of judged_of counts_of plan_of answer_of counts_in entry_bytes header_of made_of
 room-last = (refl, refl)
 
@@ -193,6 +193,6 @@ findings =
     ∷ []
 
 pub found_each : map (λ x. map (found_of file_limits x.file) x.asked) findings ≡ map (λ x. x.found) findings
-unfolding findings price_limit products same_code_lem find_in find has_month u32_bytes u32_at signed records_of first some
+unfolding findings price_limit products same_code find_in find has_month u32_bytes u32_at signed records_of first some
     mark_at correction_at position_at listed code_has_month tick_of finding_by found_of counts_of counts_in entry_bytes header_of made_of
 found_each = refl

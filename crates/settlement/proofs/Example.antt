@@ -5,7 +5,7 @@ use Prim.Native.Nat.{ℕ}
 use lib.IntN.{pos, negsuc}
 use lib.ListN.{replicate}
 use Rattle.numbers.specs.Rounding.{nearest}
-use Rattle.products.specs.Products.{price_limit, products, same_code_lem, find_in, find, currency_of, has_month}
+use Rattle.products.specs.Products.{price_limit, products, same_code, find_in, find, currency_of, has_month}
 use Rattle.pricing.specs.Prices.{par, yield_at}
 use Rattle.pricing.specs.Value.{bill_dividend, bill_divisor, value_by}
 use Rattle.pricing.specs.Calls.{value_of}
@@ -26,7 +26,7 @@ use Rattle.dayfile.proofs.CaseFile.{marks, corrections, positions, case_file}
 pub case_settled : (answer_of file_limits case_file 2 ≡ settled 2 (pos 14436) (pos 0) 1)
     × (amounts_after file_limits case_file (pos 1 ∷ pos 2 ∷ pos 3 ∷ []) ≡ pos 24060 ∷ negsuc 9623 ∷ pos 3 ∷ [])
     × (answer_of file_limits case_file 1 ≡ refused 14 0)
-unfolding marks corrections positions case_file nearest par price_limit yield_at products same_code_lem find_in find has_month bill_dividend bill_divisor value_by value_of
+unfolding marks corrections positions case_file nearest par price_limit yield_at products same_code find_in find has_month bill_dividend bill_divisor value_by value_of
     u32_at signed records_of first some mark_at correction_at position_at listed code_has_month tick_of currency_of value_or_zero
     decision_of judged_of counts_of highest_of final_of change_of amount_of total_of plan_of answer_of amounts_after
 case_settled = (refl, refl, refl)
@@ -44,7 +44,7 @@ two_marks =
 -- the higher number decides, today's price stands where no correction does, and each currency has its own total
 pub two_marks-settled : (answer_of file_limits two_marks 2 ≡ settled 2 (pos 24060) (negsuc 9575) 1)
     × (amounts_after file_limits two_marks (pos 1 ∷ pos 2 ∷ []) ≡ pos 24060 ∷ negsuc 9575 ∷ [])
-unfolding two_marks nearest par price_limit yield_at products same_code_lem find_in find has_month bill_dividend bill_divisor value_by value_of
+unfolding two_marks nearest par price_limit yield_at products same_code find_in find has_month bill_dividend bill_divisor value_by value_of
     u32_at signed records_of first some mark_at correction_at position_at listed code_has_month tick_of currency_of value_or_zero
     decision_of judged_of counts_of highest_of final_of change_of amount_of total_of plan_of answer_of amounts_after
 two_marks-settled = (refl, refl)

@@ -19,7 +19,7 @@ use Rattle.dayfile.specs.Limits.{file_limits}
 use Rattle.dayfile.specs.Records.{mark_at}
 use Rattle.dayfile.specs.declared.records.Mark.{Mark}
 use Rattle.dayfile.specs.declared.records.Correction.{Correction}
-use Rattle.products.specs.Products.{same_code_lem}
+use Rattle.products.specs.Products.{same_code}
 use Rattle.products.specs.declared.table.Code.{Code}
 use Rattle.pricing.specs.Calls.{lanes, or_zero, value_of, values_or_zero}
 use Rattle.pricing.proofs.SideBySide.{values_at}
@@ -30,8 +30,8 @@ use Rattle.settlement.specs.Groups.{group_size, alike_in, Grouped, InFile, Cappe
 use Rattle.settlement.proofs.Pricing.{value_bound}
 use Rattle.settlement.proofs.Changes.{change_at, change_past, blank-at, length-blank}
 
-same_codes : (a b : Code) → same_code_lem a b ≡ true → a ≡ b
-unfolding same_code_lem
+same_codes : (a b : Code) → same_code a b ≡ true → a ≡ b
+unfolding same_code
 same_codes a b e =
     let f = and_left (eqb a.0 b.0) (eqb a.1 b.1) e in
     let g = and_right (eqb a.0 b.0) (eqb a.1 b.1) e in

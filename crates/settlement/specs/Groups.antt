@@ -3,7 +3,7 @@ use Rattle.std.specs.Prelude.{◌≡◌, Bool, true, false, cond, List, ℕ, zer
 use Rattle.dayfile.specs.Limits.{file_limits}
 use Rattle.dayfile.specs.Records.{mark_at}
 use Rattle.dayfile.specs.declared.records.Mark.{Mark}
-use Rattle.products.specs.Products.{same_code_lem}
+use Rattle.products.specs.Products.{same_code}
 use Rattle.pricing.specs.Sizes.{value_cap}
 use Rattle.pricing.specs.Calls.{lanes}
 
@@ -11,7 +11,7 @@ abbrev pub group_size : ℕ
 group_size = 4
 
 unfoldable pub alike_in : List Mark → ℕ → ℕ → Bool
-alike_in ms i j = same_code_lem (mark_at ms i).code (mark_at ms j).code
+alike_in ms i j = same_code (mark_at ms i).code (mark_at ms j).code
 
 -- the mark i, and others of its product
 pub record Grouped (ms : List Mark) (n i : ℕ) (g : List ℕ) : Type 0 where
