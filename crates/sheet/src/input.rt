@@ -1,5 +1,5 @@
 // Standard input, read into a lent buffer.
-ghost use Rattle.sheet.specs.Input.{Moves, InBuffer};
+ghost use Rattle.sheet.specs.Input.{Moves, Takes, InBuffer, Holds};
 
 use std::io::{ErrorKind, Read};
 
@@ -13,7 +13,8 @@ pub enum Step {
 
 // One read, made again where a signal interrupts it.
 fn read_some<R: Read>(reader: &mut R, part: &mut [u8]) -> Step
-    ensures { Moves result part.old }
+    ensures count { Moves result part.old }
+    ensures bytes { Takes result (R.remaining reader.old) (R.remaining reader.new) part.new }
 {
     for _ in 0..u64::MAX {
         match reader.read(part) {
@@ -35,7 +36,8 @@ pub enum Input {
 
 // Reads until the buffer is full or the input ends. A read that fails is an answer of its own.
 pub(crate) fn read_file<R: Read>(reader: &mut R, file: &mut [u8]) -> Input
-    ensures { InBuffer result file.new }
+    ensures count { InBuffer result file.new }
+    ensures bytes { Holds result (R.remaining reader.old) (R.remaining reader.new) file.new }
 {
     let mut n = 0;
     while n < file.len() {
