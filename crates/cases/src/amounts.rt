@@ -14,22 +14,13 @@ fn with_amount(h: u64, amount: i64) -> u64 {
 // The digest of the first n amounts.
 pub(crate) fn digest(amounts: &[i64], n: usize) -> u64 {
     let mut h = 0;
-    let mut i = 0;
-    while i < n && i < amounts.len() {
-        h = with_amount(h, amounts[i]);
-        i += 1;
+    for amount in amounts.iter().take(n) {
+        h = with_amount(h, *amount);
     }
     h
 }
 
 // Whether every place from n on is as it was before the settlement.
 pub(crate) fn untouched(amounts: &[i64], n: usize) -> bool {
-    let mut i = n;
-    while i < amounts.len() {
-        if amounts[i] != UNTOUCHED {
-            return false;
-        }
-        i += 1;
-    }
-    true
+    amounts.iter().skip(n).all(|amount| *amount == UNTOUCHED)
 }

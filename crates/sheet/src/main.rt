@@ -5,24 +5,33 @@ mod input;
 
 use dayfile::DayFile;
 use input::{Input, read_file};
-use libc::{STDERR_FILENO, STDOUT_FILENO};
 use report::SHEET_SIZE;
+use std::io;
+use std::process::ExitCode;
 
-fn print_sheet(file: &[u8]) {
+// No day file has more bytes. Of a longer input the rest is not read.
+const INPUT_SIZE: usize = 65_536;
+
+fn print_sheet(rt: &impl Print, file: &[u8]) -> io::Result<()> {
     let mut amounts = [0i64; DayFile::MAX_POSITIONS];
     let mut out = [0u8; SHEET_SIZE];
     let n = report::sheet(file, &mut amounts, &mut out);
-    if !io::write_all(STDOUT_FILENO, &out[..n]) {
-        io::write_all(STDERR_FILENO, b"sheet: standard output cannot be written\n");
-    }
+    rt.write_all(&out[..n])
 }
 
-fn main() {
-    let mut file = io::large_buffer();
-    match read_file(&mut file) {
-        Input::Bytes(n) => print_sheet(&file[..n]),
-        Input::Failed => {
-            io::write_all(STDERR_FILENO, b"sheet: standard input cannot be read\n");
-        }
+// Says on standard error what failed.
+fn failed(rt: &impl Eprint, what: &str) -> ExitCode {
+    let _ = eprintln!(rt; "sheet: {what}");
+    ExitCode::FAILURE
+}
+
+fn main(rt: HostRuntime) -> ExitCode {
+    let mut file = [0u8; INPUT_SIZE];
+    match read_file(&mut rt.stdin(), &mut file) {
+        Input::Bytes(n) => match print_sheet(&rt, &file[..n]) {
+            Ok(()) => ExitCode::SUCCESS,
+            Err(_) => failed(&rt, "standard output cannot be written"),
+        },
+        Input::Failed => failed(&rt, "standard input cannot be read"),
     }
 }

@@ -1,72 +1,65 @@
 // Lines of text on standard output.
 ghost use Rattle.std.specs.Prelude.{◌<◌};
 
-use io::{print_decimal, write_all};
-use libc::STDOUT_FILENO;
 use pricing::Priced;
 use products::Code;
+use std::io;
 
-fn letters(code: Code) {
-    write_all(STDOUT_FILENO, &[code.0, code.1]);
+fn letters(rt: &impl Print, code: Code) -> io::Result<()> {
+    rt.write_all(&[code.0, code.1])
 }
 
 // A space, and the number given or the refusal.
-fn answer(a: Priced) {
+fn answer(rt: &impl Print, a: Priced) -> io::Result<()> {
     match a {
-        Priced::Given(n) => {
-            write_all(STDOUT_FILENO, b" ");
-            print_decimal(STDOUT_FILENO, n);
-        }
-        Priced::Refused(k) => {
-            write_all(STDOUT_FILENO, b" refused ");
-            print_decimal(STDOUT_FILENO, k as u64);
-        }
+        Priced::Given(n) => print!(rt; " {n}"),
+        Priced::Refused(k) => print!(rt; " refused {k}"),
     }
 }
 
 // The rest of a line after its code: price, value, tick value, bracket.
-fn answers(code: Code, price: u32) {
-    write_all(STDOUT_FILENO, b" ");
-    print_decimal(STDOUT_FILENO, price as u64);
-    answer(pricing::value(code, price));
-    answer(pricing::tick_value(code, price));
-    answer(pricing::bracket(code, price));
-    write_all(STDOUT_FILENO, b"\n");
+fn answers(rt: &impl Print, code: Code, price: u32) -> io::Result<()> {
+    print!(rt; " {price}")?;
+    answer(rt, pricing::value(code, price))?;
+    answer(rt, pricing::tick_value(code, price))?;
+    answer(rt, pricing::bracket(code, price))?;
+    println!(rt)
 }
 
 // A line for each of the prices from first on, a step apart, up to last.
-pub(crate) fn at_prices(code: Code, first: u32, last: u32, step: u32)
+pub(crate) fn at_prices(
+    rt: &impl Print,
+    code: Code,
+    first: u32,
+    last: u32,
+    step: u32,
+) -> io::Result<()>
     requires { 0 < step }
 {
     let mut price = first as u64;
     while price <= last as u64 {
-        letters(code);
-        answers(code, price as u32);
+        letters(rt, code)?;
+        answers(rt, code, price as u32)?;
         price += step as u64;
     }
+    Ok(())
 }
 
 // A line whose code is written as two numbers, since it need not be text.
-pub(crate) fn of_bytes(code: Code, price: u32) {
-    print_decimal(STDOUT_FILENO, code.0 as u64);
-    write_all(STDOUT_FILENO, b" ");
-    print_decimal(STDOUT_FILENO, code.1 as u64);
-    answers(code, price);
+pub(crate) fn of_bytes(rt: &impl Print, code: Code, price: u32) -> io::Result<()> {
+    let first = code.0;
+    let second = code.1;
+    print!(rt; "{first} {second}")?;
+    answers(rt, code, price)
 }
 
 // A digest of answers for one code. The label says at which prices.
-pub(crate) fn digest(code: Code, label: &[u8], h: u64) {
-    letters(code);
-    write_all(STDOUT_FILENO, label);
-    print_decimal(STDOUT_FILENO, h);
-    write_all(STDOUT_FILENO, b"\n");
+pub(crate) fn digest(rt: &impl Print, code: Code, label: &str, h: u64) -> io::Result<()> {
+    letters(rt, code)?;
+    println!(rt; " {label} {h}")
 }
 
 // A digest of the answers for all codes at a price.
-pub(crate) fn all_codes(price: u32, h: u64) {
-    write_all(STDOUT_FILENO, b"all codes ");
-    print_decimal(STDOUT_FILENO, price as u64);
-    write_all(STDOUT_FILENO, b" digest ");
-    print_decimal(STDOUT_FILENO, h);
-    write_all(STDOUT_FILENO, b"\n");
+pub(crate) fn all_codes(rt: &impl Print, price: u32, h: u64) -> io::Result<()> {
+    println!(rt; "all codes {price} digest {h}")
 }
