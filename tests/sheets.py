@@ -37,9 +37,11 @@ def check_failures(program):
     unreadable = subprocess.run([program], stdin=subprocess.DEVNULL, capture_output=True, preexec_fn=lambda: os.close(0))
     require(unreadable.stdout == b"", "no sheet where the input cannot be read")
     require(unreadable.stderr == b"sheet: standard input cannot be read\n", "a failed read is told")
+    require(unreadable.returncode == 1, "a failed read ends in status 1")
     with open("/dev/full", "wb") as full:
         unwritten = subprocess.run([program], input=b"", stdout=full, stderr=subprocess.PIPE)
     require(unwritten.stderr == b"sheet: standard output cannot be written\n", "a failed write is told")
+    require(unwritten.returncode == 1, "a failed write ends in status 1")
     print("sheets: failures to read and to write are told")
 
 
