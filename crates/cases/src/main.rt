@@ -5,7 +5,8 @@
 mod amounts;
 
 use amounts::{UNTOUCHED, digest, untouched};
-use settlement::Settlement;
+use faults::Refusal;
+use settlement::Settled;
 use std::io::Read;
 use std::rt::Files;
 use std::{fs, io};
@@ -16,41 +17,28 @@ const PLACES: usize = 4_100;
 // No day file has more bytes. Of a longer file the rest is not read.
 const FILE_SIZE: u64 = 65_536;
 
-fn print(rt: &impl Print, text: &str) -> io::Result<()> {
-    rt.print(text)
-}
-
-// A space and a number.
-fn field(rt: &impl Print, n: u64) -> io::Result<()> {
-    print!(rt; " {n}")
-}
-
-// A space and a signed number.
-fn signed_field(rt: &impl Print, x: i64) -> io::Result<()> {
-    print!(rt; " {x}")
-}
-
 // The line's rest after its name. It says so where a place was written that holds no amount of the file.
-fn print_answer(rt: &impl Print, answer: Settlement, amounts: &[i64]) -> io::Result<()> {
+fn print_answer(
+    rt: &impl Print,
+    answer: Result<Settled, Refusal>,
+    amounts: &[i64],
+) -> io::Result<()> {
     match answer {
-        Settlement::Settled {
-            positions,
-            aud,
-            nzd,
-            resent,
-        } => {
-            field(rt, positions as u64)?;
-            signed_field(rt, aud.cents())?;
-            signed_field(rt, nzd.cents())?;
-            field(rt, resent as u64)?;
-            field(rt, digest(amounts, positions))?;
+        Ok(
+            Settled {
+                positions,
+                aud,
+                nzd,
+                resent,
+            },
+        ) => {
+            let (aud, nzd) = (aud.cents(), nzd.cents());
+            let digest = digest(amounts, positions);
+            print!(rt; " {positions} {aud} {nzd} {resent} {digest}")?;
             print_touched(rt, amounts, positions)
         }
-        Settlement::Refused { number, index } => {
-            print(rt, " refused")?;
-            field(rt, number as u64)?;
-            print(rt, " at")?;
-            field(rt, index as u64)?;
+        Err(Refusal { fault, index }) => {
+            print!(rt; " refused {} at {index}", u32::from(fault))?;
             print_touched(rt, amounts, 0)
         }
     }
@@ -60,162 +48,196 @@ fn print_touched(rt: &impl Print, amounts: &[i64], n: usize) -> io::Result<()> {
     if untouched(amounts, n) {
         return Ok(());
     }
-    print(rt, " and wrote elsewhere")
+    print!(rt; " and wrote elsewhere")
 }
 
 // Settles a file into the first places of a slice.
 fn settle_into(rt: &impl Print, file: &[u8], amounts: &mut [i64], places: usize) -> io::Result<()> {
-    if places < amounts.len() {
-        let answer = settlement::settle(file, &mut amounts[..places]);
-        print_answer(rt, answer, amounts)
-    } else {
-        let answer = settlement::settle(file, amounts);
-        print_answer(rt, answer, amounts)
-    }
+    let places = places.min(amounts.len());
+    let answer = settlement::settle(file, &mut amounts[..places]);
+    print_answer(rt, answer, amounts)
 }
 
 // Settles the file of that name, with so many places for amounts.
 fn case_with<R: Files + Print + Alloc>(rt: &R, name: &str, places: usize) -> io::Result<()> {
-    print(rt, name)?;
-    print(rt, ":")?;
+    print!(rt; "{name}:")?;
     let Ok(source) = fs::open(rt, name) else {
-        return print(rt, " no such file\n");
+        return println!(rt; " no such file");
     };
     let mut file = Vec::new(rt.alloc());
     source.take(FILE_SIZE).read_to_end(&mut file)?;
     let mut amounts = [UNTOUCHED; PLACES];
     settle_into(rt, &file, &mut amounts, places)?;
-    print(rt, "\n")
+    println!(rt)
 }
 
-fn case<R: Files + Print + Alloc>(rt: &R, name: &str) -> io::Result<()> {
-    case_with(rt, name, PLACES)
+// Settles the files of those names.
+fn each_case<R: Files + Print + Alloc>(rt: &R, names: &[&str]) -> io::Result<()> {
+    for name in names {
+        case_with(rt, name, PLACES)?;
+    }
+    Ok(())
 }
 
 // Checks 1 to 3: length, counts, offsets.
 fn layout<R: Files + Print + Alloc>(rt: &R) -> io::Result<()> {
-    case(rt, "empty_file")?;
-    case(rt, "one_byte_short_of_a_header")?;
-    case(rt, "short_and_above_limits")?;
-    case(rt, "header_alone")?;
+    each_case(
+        rt,
+        &[
+            "empty_file",
+            "one_byte_short_of_a_header",
+            "short_and_above_limits",
+            "header_alone",
+        ],
+    )?;
     case_with(rt, "header_alone_with_no_places", 0)?;
-    case(rt, "marks_at_limit")?;
-    case(rt, "marks_above_limit")?;
-    case(rt, "corrections_at_limit")?;
-    case(rt, "corrections_above_limit")?;
-    case(rt, "positions_at_limit")?;
-    case(rt, "positions_above_limit")?;
-    case(rt, "largest_counts")?;
-    case(rt, "counts_that_would_wrap")?;
-    case(rt, "marks_offset_high")?;
-    case(rt, "corrections_offset_low")?;
-    case(rt, "positions_offset_largest")?;
-    case(rt, "offsets_of_a_gap")?;
-    case(rt, "one_byte_short")?;
-    case(rt, "one_byte_long")?;
-    case(rt, "one_position_less_counted")?;
-    case(rt, "count_before_offset")
+    each_case(
+        rt,
+        &[
+            "marks_at_limit",
+            "marks_above_limit",
+            "corrections_at_limit",
+            "corrections_above_limit",
+            "positions_at_limit",
+            "positions_above_limit",
+            "largest_counts",
+            "counts_that_would_wrap",
+            "marks_offset_high",
+            "corrections_offset_low",
+            "positions_offset_largest",
+            "offsets_of_a_gap",
+            "one_byte_short",
+            "one_byte_long",
+            "one_position_less_counted",
+            "count_before_offset",
+        ],
+    )
 }
 
 // Checks 4 to 8.
 fn marks<R: Files + Print + Alloc>(rt: &R) -> io::Result<()> {
-    case(rt, "unlisted_code")?;
-    case(rt, "lower_case_code")?;
-    case(rt, "month_0")?;
-    case(rt, "month_13")?;
-    case(rt, "month_of_no_quarter")?;
-    case(rt, "month_of_a_cash_rate")?;
-    case(rt, "year_99")?;
-    case(rt, "year_100")?;
-    case(rt, "price_0_to_limit")?;
-    case(rt, "previous_price_above_limit")?;
-    case(rt, "today_price_above_limit")?;
-    case(rt, "largest_price")?;
-    case(rt, "off_tick_previous_price")?;
-    case(rt, "off_tick_today_price")?;
-    case(rt, "tick_of_50")?;
-    case(rt, "repeated_mark")?;
-    case(rt, "two_repeated_marks")?;
-    case(rt, "marks_that_agree_in_two_fields")
+    each_case(
+        rt,
+        &[
+            "unlisted_code",
+            "lower_case_code",
+            "month_0",
+            "month_13",
+            "month_of_no_quarter",
+            "month_of_a_cash_rate",
+            "year_99",
+            "year_100",
+            "price_0_to_limit",
+            "previous_price_above_limit",
+            "today_price_above_limit",
+            "largest_price",
+            "off_tick_previous_price",
+            "off_tick_today_price",
+            "tick_of_50",
+            "repeated_mark",
+            "two_repeated_marks",
+            "marks_that_agree_in_two_fields",
+        ],
+    )
 }
 
 // Checks 9 to 11.
 fn corrections<R: Files + Print + Alloc>(rt: &R) -> io::Result<()> {
-    case(rt, "correction_names_last_mark")?;
-    case(rt, "correction_names_no_mark")?;
-    case(rt, "correction_names_largest_mark")?;
-    case(rt, "correction_above_limit")?;
-    case(rt, "off_tick_correction")?;
-    case(rt, "tick_of_the_named_mark")?;
-    case(rt, "off_tick_correction_overridden")?;
-    case(rt, "same_number_other_price")?;
-    case(rt, "same_number_other_mark")?;
-    case(rt, "clash_after_a_copy")?;
-    case(rt, "first_of_two_clashes")?;
-    case(rt, "higher_number_stands_first")?;
-    case(rt, "numbers_are_unsigned")?;
-    case(rt, "correction_number_0")?;
-    case(rt, "no_marks_with_corrections")
+    each_case(
+        rt,
+        &[
+            "correction_names_last_mark",
+            "correction_names_no_mark",
+            "correction_names_largest_mark",
+            "correction_above_limit",
+            "off_tick_correction",
+            "tick_of_the_named_mark",
+            "off_tick_correction_overridden",
+            "same_number_other_price",
+            "same_number_other_mark",
+            "clash_after_a_copy",
+            "first_of_two_clashes",
+            "higher_number_stands_first",
+            "numbers_are_unsigned",
+            "correction_number_0",
+            "no_marks_with_corrections",
+        ],
+    )
 }
 
 // Checks 12, 13, 16 and 14.
 fn positions<R: Files + Print + Alloc>(rt: &R) -> io::Result<()> {
-    case(rt, "no_marks_with_positions")?;
-    case(rt, "position_names_no_mark")?;
-    case(rt, "lots_0")?;
-    case(rt, "most_lots_long")?;
-    case(rt, "most_lots_short")?;
-    case(rt, "one_lot_too_many_long")?;
-    case(rt, "one_lot_too_many_short")?;
-    case(rt, "smallest_i32_lots")?;
-    case(rt, "two_accounts_in_a_mark")?;
-    case(rt, "one_account_in_two_marks")?;
-    case(rt, "account_and_mark_exchanged")?;
-    case(rt, "accounts_apart_in_the_highest_bit")?;
-    case(rt, "one_account_twice_in_a_mark")?;
-    case(rt, "one_account_twice_with_other_lots")?;
-    case(rt, "one_account_three_times_in_a_mark")?;
-    case(rt, "first_of_two_repeated_positions")?;
-    case(rt, "repeated_position_far_from_its_first")?;
-    case(rt, "last_of_all_positions_repeated")?;
+    each_case(
+        rt,
+        &[
+            "no_marks_with_positions",
+            "position_names_no_mark",
+            "lots_0",
+            "most_lots_long",
+            "most_lots_short",
+            "one_lot_too_many_long",
+            "one_lot_too_many_short",
+            "smallest_i32_lots",
+            "two_accounts_in_a_mark",
+            "one_account_in_two_marks",
+            "account_and_mark_exchanged",
+            "accounts_apart_in_the_highest_bit",
+            "one_account_twice_in_a_mark",
+            "one_account_twice_with_other_lots",
+            "one_account_three_times_in_a_mark",
+            "first_of_two_repeated_positions",
+            "repeated_position_far_from_its_first",
+            "last_of_all_positions_repeated",
+        ],
+    )?;
     case_with(rt, "as_many_places_as_positions", 2)?;
     case_with(rt, "one_place_too_few", 1)
 }
 
 // Two faults: the check that stands first in the order decides.
 fn order<R: Files + Print + Alloc>(rt: &R) -> io::Result<()> {
-    case(rt, "code_before_month")?;
-    case(rt, "year_before_limit")?;
-    case(rt, "limit_before_tick")?;
-    case(rt, "limit_before_tick_in_one_price")?;
-    case(rt, "tick_before_repeated_mark")?;
-    case(rt, "repeated_mark_before_correction")?;
-    case(rt, "no_mark_before_correction_price")?;
-    case(rt, "correction_price_before_clash")?;
-    case(rt, "clash_before_position_mark")?;
-    case(rt, "position_mark_before_lots")?;
-    case(rt, "position_mark_before_repeated_position")?;
-    case(rt, "lots_before_repeated_position")?;
+    each_case(
+        rt,
+        &[
+            "code_before_month",
+            "year_before_limit",
+            "limit_before_tick",
+            "limit_before_tick_in_one_price",
+            "tick_before_repeated_mark",
+            "repeated_mark_before_correction",
+            "no_mark_before_correction_price",
+            "correction_price_before_clash",
+            "clash_before_position_mark",
+            "position_mark_before_lots",
+            "position_mark_before_repeated_position",
+            "lots_before_repeated_position",
+        ],
+    )?;
     case_with(rt, "lots_before_places", 0)?;
     case_with(rt, "repeated_position_before_places", 1)?;
-    case(rt, "offset_before_code")
+    case_with(rt, "offset_before_code", PLACES)
 }
 
 // The case of document 01, every product, resent corrections, a full file.
 fn accepted<R: Files + Print + Alloc>(rt: &R) -> io::Result<()> {
-    case(rt, "case_of_document_01")?;
-    case(rt, "marks_alone")?;
-    case(rt, "every_product")?;
-    case(rt, "every_product_at_yield_0")?;
-    case(rt, "equal_prices")?;
-    case(rt, "corrected_to_previous_price")?;
-    case(rt, "first_list")?;
-    case(rt, "copies_before")?;
-    case(rt, "copies_between")?;
-    case(rt, "copies_after")?;
-    case(rt, "copies_everywhere")?;
-    case(rt, "copies_up_to_the_limit")?;
-    case(rt, "full_size")
+    each_case(
+        rt,
+        &[
+            "case_of_document_01",
+            "marks_alone",
+            "every_product",
+            "every_product_at_yield_0",
+            "equal_prices",
+            "corrected_to_previous_price",
+            "first_list",
+            "copies_before",
+            "copies_between",
+            "copies_after",
+            "copies_everywhere",
+            "copies_up_to_the_limit",
+            "full_size",
+        ],
+    )
 }
 
 fn main(rt: HostRuntime) -> io::Result<()> {

@@ -1,5 +1,5 @@
 -- Each check's test is true exactly where its words say that something is wrong, and each stands in its section's order.
-use Rattle.std.proofs.Common.{◌≡◌, ℕ, ◌%◌, ◌<◌, not, ◌&&◌, ◌||◌, eqb, ltb, ◌⊎◌, List, ◌∷◌, length, ℤ, pos, negsuc, neg_ℤ, ◌<ℤ◌, refl, ap, ap₂, arith}
+use Rattle.std.proofs.Common.{◌≡◌, ℕ, ◌%◌, ◌<◌, not, ◌&&◌, ◌||◌, eqb, ltb, ◌⊎◌, List, ◌∷◌, length, ℤ, pos, negsuc, neg_ℤ, ◌<ℤ◌, refl, ap, ap₂, arith, Some}
 use mathlib.Core.List.{Memᴰ}
 use Prim.Native.Nat.{◌∣◌}
 use native.Mathlib.Nat.{mod-one}
@@ -11,7 +11,6 @@ use Rattle.numbers.proofs.Checks.{Agree, agree_only, agree_before}
 use Rattle.products.specs.Products.{price_limit, find, months_of, Unlisted}
 use Rattle.products.specs.declared.table.Code.{Code}
 use Rattle.products.specs.declared.table.Product.{Product}
-use Rattle.products.specs.declared.table.NamedProduct.TheVariants.{Named}
 use Rattle.products.proofs.Finding.{tells_unlisted, tells_product}
 use Rattle.products.proofs.Months.{month_exactly}
 use Rattle.dayfile.specs.Limits.{Limits, year_limit, lots_limit}
@@ -36,7 +35,7 @@ tells_missing : (a : Code) → Tells (not (listed a)) (Unlisted a)
 unfolding listed
 tells_missing a = tells_unlisted a (λ f. not (listed_in f)) (λ product. refl) refl
 
-tells_off_tick : (a : Code) (p : ℕ) → Tells (not (eqb (p % tick_of a) 0)) ((product : Product) × (find a ≡ Named product) × ¬ (product.tick ∣ p))
+tells_off_tick : (a : Code) (p : ℕ) → Tells (not (eqb (p % tick_of a) 0)) ((product : Product) × (find a ≡ Some product) × ¬ (product.tick ∣ p))
 unfolding tick_of
 tells_off_tick a p =
     tells_product a (λ f. not (eqb (p % tick_in f) 0)) {A = λ product. ¬ (product.tick ∣ p)} (λ product. tells_not (eqb (p % product.tick) 0) (tells_divides product.tick p)) (rw (mod-one p))

@@ -1,10 +1,9 @@
 -- Records have one key exactly where they are of one contract, bear one number, or agree in account and mark.
-use Rattle.std.proofs.Common.{◌≡◌, ℕ, ◌+◌, ◌*◌, ◌/◌, ◌<◌, ◌≤◌, Bool, true, false, ◌&&◌, eqb, List, [], map, length, get_or, drop, sym, refl, ◌∙◌, ap₂, arith, eqb-true}
+use Rattle.std.proofs.Common.{◌≡◌, ℕ, ◌+◌, ◌*◌, ◌/◌, ◌<◌, ◌≤◌, Bool, true, false, ◌&&◌, eqb, List, [], map, length, get_or, drop, sym, refl, ◌∙◌, ap₂, arith, eqb-true, Option}
 use native.Mathlib.Decide.{dec_lt}
 use borrow.Author.Tests.{eqb-false}
 use Rattle.numbers.specs.Bytes.{Bytes, part, joined, u32_at, records_of}
 use Rattle.numbers.specs.Folds.{repeating, first, front}
-use Rattle.numbers.specs.declared.Found.{Found}
 use Rattle.numbers.proofs.Bytes.{part_bytes, joined_same, u32_small}
 use Rattle.numbers.proofs.Truth.{Tells, tells_and, tells_eq, told, denied}
 use Rattle.numbers.proofs.Last.{last-same}
@@ -57,7 +56,7 @@ contract_keyed s b i k =
     rw (mark-key s i, mark-key s k, m.is, n.is) (sym (joined_same _ _ (m.bytes 0) (m.bytes 1) (m.bytes 2) (n.bytes 0) (n.bytes 1) (n.bytes 2)))
 
 -- the first mark with an earlier one's key is the first of an earlier one's contract
-pub repeated_mark : (s : List ℕ) → Bytes s → length (marks_in s) ≤ file_limits.marks → {o : Found}
+pub repeated_mark : (s : List ℕ) → Bytes s → length (marks_in s) ≤ file_limits.marks → {o : Option ℕ}
     → o ≡ first (repeating (same_key_in Four mark_size s)) (looked_at Four mark_size s) → o ≡ first (repeating (contract_pair (marks_in s))) (length (marks_in s))
 repeated_mark s b h e =
     let n : length s / mark_size ≤ file_limits.marks = rw (size_is mark_of mark_size s) at h in
@@ -119,7 +118,7 @@ holding_keyed s b i k =
     (sym (words_same (u32_at p.from 4) (u32_at o.from 4) (u32_small p.from 0 p.bytes) (u32_small o.from 0 o.bytes)))
 
 -- the first position with an earlier one's key is the first with its account and mark
-pub repeated_position : (s : List ℕ) → Bytes s → length (positions_in s) ≤ file_limits.positions → {o : Found}
+pub repeated_position : (s : List ℕ) → Bytes s → length (positions_in s) ≤ file_limits.positions → {o : Option ℕ}
     → o ≡ first (repeating (same_key_in Eight position_size s)) (looked_at Eight position_size s)
     → o ≡ first (repeating (holding_pair (positions_in s))) (length (positions_in s))
 repeated_position s b h e =

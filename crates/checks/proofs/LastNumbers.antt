@@ -1,12 +1,11 @@
 -- The first correction that clashes with an earlier one is found by looking at the last earlier one with the same number.
-use Rattle.std.proofs.Common.{◌≡◌, ℕ, zero, suc, ◌<◌, Bool, true, false, not, ◌&&◌, ◌||◌, eqb, ltb, List, length, get_or, sym, refl, ap, ◌∙◌, arith, ltb-false, ltb-true, eqb-true}
+use Rattle.std.proofs.Common.{◌≡◌, ℕ, zero, suc, ◌<◌, ◌≤◌, Bool, true, false, cond, not, ◌&&◌, ◌||◌, eqb, ltb, List, length, get_or, sym, refl, ap, ◌∙◌, arith, ltb-false, ltb-true, eqb-true, Option, Some, None}
 use borrow.Author.Tests.{eqb-false}
-use Rattle.numbers.specs.Folds.{repeating, first, last}
+use Rattle.numbers.specs.Folds.{repeating, first, last, or_else}
 use Rattle.dayfile.specs.Records.{correction_at}
 use Rattle.checks.specs.Corrections.{same_number, number_pair, clashing, clash_pair}
 use Rattle.checks.specs.Faults.{clashes_below, Lasts}
 use Rattle.dayfile.specs.declared.records.Correction.{Correction}
-use Rattle.numbers.specs.declared.Found.TheVariants.{Nothing}
 use Rattle.numbers.proofs.Searches.{first_clear, some_at, some_clear, clear_some}
 use Rattle.numbers.proofs.Last.{last_le, last_hit, last_again, last-after, some-last}
 
@@ -38,7 +37,7 @@ module _ (cs : List Correction) (i k : ℕ) where
   unfolding clashes_below
   below_one j e p = rw e p
 
-module _ (cs : List Correction) (i : ℕ) (before : first (repeating (clash_pair cs)) i ≡ Nothing) where
+module _ (cs : List Correction) (i : ℕ) (before : first (repeating (clash_pair cs)) i ≡ None) where
   abbrev at : ℕ → Correction
   at x = correction_at cs x
 
@@ -73,11 +72,24 @@ module _ (cs : List Correction) (i : ℕ) (before : first (repeating (clash_pair
 
 -- ---- by the array of the last ones
 
-module _ (cs : List Correction) {i : ℕ} {a : List ℕ} {r : Bool} (h : Lasts cs a) (inside : i < length cs) where
-  -- a correction bears an earlier one's number where there is a last one that does
-  pub repeats : r ≡ not (eqb (get_or a i 0) 0) → r ≡ repeating (number_pair cs) i
-  repeats p = p ∙ ap (λ (k : ℕ). not (eqb k 0)) (h.lasts.entry i inside) ∙ sym (some-last (number_pair cs i) i)
+-- a correction bears an earlier one's number where there is a last one that does
+pub repeats : (cs : List Correction) {a : List ℕ} → Lasts cs a → {i : ℕ} → i < length cs → not (eqb (get_or a i 0) 0) ≡ repeating (number_pair cs) i
+repeats cs h {i} inside = ap (λ (k : ℕ). not (eqb k 0)) (h.lasts.entry i inside) ∙ sym (some-last (number_pair cs i) i)
 
-  -- a correction clashes with an earlier one where it does with the last one with its number, if none before it clashes
-  pub clashes : first (repeating (clash_pair cs)) i ≡ Nothing → r ≡ clashes_below cs i (get_or a i 0) → r ≡ repeating (clash_pair cs) i
-  clashes b p = p ∙ ap (clashes_below cs i) (h.lasts.entry i inside) ∙ sym (clash_last cs i b)
+-- so it is enough to look at the last one with the same number where none before it clashes, and so for the first that clashes
+module _ (cs : List Correction) {a : List ℕ} (h : Lasts cs a) where
+  abbrev pub by_lasts : ℕ → Bool
+  by_lasts i = clashes_below cs i (get_or a i 0)
+
+  first_by_lasts : (n : ℕ) → n ≤ length cs → first by_lasts n ≡ first (repeating (clash_pair cs)) n
+  unfolding first
+  first_by_lasts zero l = refl
+  first_by_lasts (suc n) l = rw (first_by_lasts n (omega arith)) (go (first (repeating (clash_pair cs)) n) refl)
+    where
+      go : (o : Option ℕ) → first (repeating (clash_pair cs)) n ≡ o
+          → or_else o (cond (by_lasts n) (Some n) None) ≡ or_else o (cond (repeating (clash_pair cs) n) (Some n) None)
+      go (Some i) e = refl
+      go None e = rw (ap (clashes_below cs n) (h.lasts.entry n (omega arith)) ∙ sym (clash_last cs n e))
+
+  pub first_clashing : first by_lasts (length cs) ≡ first (repeating (clash_pair cs)) (length cs)
+  first_clashing = first_by_lasts (length cs) (omega arith)

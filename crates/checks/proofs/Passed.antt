@@ -3,14 +3,13 @@ use Rattle.std.proofs.Common.{◌≡◌, ℕ, ◌-◌, ◌<◌, ◌≤◌, false
 use lib.Signed.{lt_z}
 use Rattle.numbers.specs.Integers.{is_zero}
 use Rattle.numbers.specs.Checks.{◌before◌, decision_of}
-use Rattle.numbers.specs.declared.deciding.Decision.TheVariants.{Unmet}
 use Rattle.numbers.proofs.Searches.{or_none}
 use Rattle.numbers.proofs.Truth.{or_left, or_right}
 use Rattle.numbers.proofs.Checks.{both_unmet, decision-before, passed-at}
 use Rattle.dayfile.specs.Limits.{Limits, file_limits, lots_limit}
 use Rattle.dayfile.specs.Layout.{counts_of, lists_of_file}
 use Rattle.dayfile.specs.Opening.{header_checks, opened_of}
-use Rattle.dayfile.specs.declared.file.Opened.TheVariants.{File}
+use Rattle.dayfile.specs.Opening.{File}
 use Rattle.dayfile.proofs.Refusals.{opened_decides}
 use Rattle.dayfile.specs.Records.{Lists, position_at}
 use Rattle.dayfile.specs.WithinLimits.{ListsWithinLimits}
@@ -19,6 +18,7 @@ use Rattle.checks.specs.Corrections.{CorrectionCheck, correction_check, correcti
 use Rattle.checks.specs.Positions.{bad_lots, PositionCheck, PositionMark, PositionLots, position_check, position_checks}
 use Rattle.checks.specs.Judging.{record_checks, too_many_records, file_checks}
 use Rattle.checks.proofs.Agreement.{of_marks, of_corrections, of_positions}
+use Rattle.numbers.specs.Order.{Unmet}
 
 -- ---- how many records
 

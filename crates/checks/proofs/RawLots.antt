@@ -1,14 +1,13 @@
 -- The test of a position's lots by the word that its bytes have for them.
-use Rattle.std.proofs.Common.{◌≡◌, ℕ, suc, ◌+◌, ◌-◌, ◌*◌, ◌%◌, ◌<◌, Bool, true, false, ◌||◌, eqb, ltb, List, length, pos, negsuc, refl, ap, ◌∙◌, arith, ltb-false, ltb-true, le-ltb, lt-ltb, eq-eqb, ne_eqb, eqb-true}
+use Rattle.std.proofs.Common.{◌≡◌, ℕ, suc, ◌+◌, ◌-◌, ◌*◌, ◌%◌, ◌<◌, Bool, true, false, ◌||◌, eqb, ltb, List, pos, negsuc, refl, ap, ◌∙◌, arith, ltb-false, ltb-true, le-ltb, lt-ltb, eq-eqb, ne_eqb, eqb-true}
 use borrow.Author.Tests.{eqb-false}
 use Rattle.numbers.specs.Bytes.{signed}
 use Rattle.dayfile.specs.Limits.{lots_limit}
-use Rattle.dayfile.specs.Records.{positions_in, position_at, raw_positions_in, raw_position_at}
-use Rattle.dayfile.proofs.Fields.{signed_position, as_signed_position}
+use Rattle.dayfile.specs.Records.{positions_in, position_at, raw_positions_in, raw_position_at, signed_position}
+use Rattle.dayfile.proofs.Fields.{as_signed_position}
 use Rattle.dayfile.specs.declared.records.RawPosition.{RawPosition}
-use Rattle.dayfile.specs.declared.records.Mark.{Mark}
 use Rattle.checks.specs.Positions.{bad_lots}
-use Rattle.checks.specs.Faults.{raw_faults, position_faults}
+use Rattle.checks.specs.Faults.{raw_faults, counted_faults}
 use Rattle.checks.specs.declared.positions.PositionFaults.{PositionFaults}
 
 -- a number moved up by the limit is the limit itself, or above twice the limit
@@ -51,8 +50,8 @@ moved_lots u h = go (ltb u 2_147_483_648) refl
         rw (q, lt-ltb u 4_294_967_296 h) (below (4_294_967_296 - suc u) ((u + lots_limit) % 4_294_967_296) (omega arith) (omega arith))
 
 -- a position is looked at by its bytes
-pub raw_faults_lem : (ms : List Mark) (s : List ℕ) (i : ℕ) {n : ℕ} {w : RawPosition} {r : PositionFaults} → n ≡ length ms → w ≡ raw_position_at (raw_positions_in s) i → w.lots < 4_294_967_296
-    → r ≡ raw_faults n w → r ≡ position_faults ms (position_at (positions_in s) i)
-raw_faults_lem ms s i {n} {w} e f h q =
+pub raw_faults_lem : (n : ℕ) (s : List ℕ) (i : ℕ) {w : RawPosition} {r : PositionFaults} → w ≡ raw_position_at (raw_positions_in s) i → w.lots < 4_294_967_296
+    → r ≡ raw_faults n w → r ≡ counted_faults n (position_at (positions_in s) i)
+raw_faults_lem n s i {w} f h q =
     let p = ap signed_position f ∙ as_signed_position s i in
-    q ∙ rw (e, moved_lots w.lots h) (ap (position_faults ms) p)
+    q ∙ rw (moved_lots w.lots h) (ap (counted_faults n) p)

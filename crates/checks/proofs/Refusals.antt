@@ -1,18 +1,16 @@
 -- What the checks answer is what their conditions in words say, in both directions and with the index: a file or a list is refused with k at i
 -- exactly where the condition of check k is the first that holds, at i first, and passes exactly where none holds.
 use Rattle.std.proofs.Common.{◌≡◌, ℕ, ◌<◌, ◌≤◌, false, ◌⊎◌, ◌↔◌, List, length, sym, refl, ap, ◌∙◌, arith, le-ltb, lt-ltb}
-use Rattle.numbers.specs.Order.{or_later}
+use Rattle.numbers.specs.Order.{or_later, Decision, Met, Unmet}
 use Rattle.numbers.specs.Bytes.{u32_at}
 use Rattle.numbers.specs.Checks.{◌before◌, Refuses, Passes, decision_of}
-use Rattle.numbers.specs.declared.deciding.Decision.{Decision}
-use Rattle.numbers.specs.declared.deciding.Decision.TheVariants.{Met, Unmet}
 use Rattle.numbers.proofs.Truth.{told}
 use Rattle.numbers.proofs.Checks.{refuses_exactly, passes_exactly, decision-before, one_decides, one_passes}
 use Rattle.dayfile.specs.Limits.{Limits}
 use Rattle.dayfile.specs.Records.{Lists}
 use Rattle.dayfile.specs.Layout.{counts_of, lists_of_file}
 use Rattle.dayfile.specs.Opening.{header_checks, opened_of}
-use Rattle.dayfile.specs.declared.file.Opened.TheVariants.{File}
+use Rattle.dayfile.specs.Opening.{File}
 use Rattle.dayfile.proofs.Opening.{opens}
 use Rattle.dayfile.proofs.Parts.{header-counts}
 use Rattle.dayfile.proofs.Refusals.{opened_decides}
@@ -24,7 +22,7 @@ use Rattle.checks.specs.Marks.{MarkCheck, mark_check, mark_checks, too_many_mark
 use Rattle.checks.specs.Corrections.{CorrectionCheck, correction_check, correction_checks, correction_list_checks, corrections_judged, resent_of}
 use Rattle.checks.specs.Positions.{PositionCheck, position_check, position_checks, too_many_positions, position_list_checks}
 use Rattle.checks.specs.Judging.{record_checks, too_many_records, list_checks, file_checks, judged_by, judged_of}
-use Rattle.checks.specs.declared.judging.Judged.TheVariants.{Passed, Refused}
+use Rattle.checks.specs.Judging.{Passed, Refused}
 use Rattle.checks.proofs.Agreement.{marks_agree, corrections_agree, positions_agree, mark_lists_agree, correction_lists_agree, position_lists_agree, file_agrees, many, many_records, lists_agree}
 use Rattle.checks.proofs.Deciding.{too_many_corrections_lem, not_many_corrections}
 use Rattle.checks.proofs.Passed.{passed_parts, mark_passes, correction_passes, position_passes}

@@ -2,6 +2,8 @@
 use Rattle.std.specs.Prelude.{◌≡◌, ℕ, ◌<◌, ◌≤◌, Bool, cond, not, ◌&&◌, ◌||◌, ◌≢◌, ◌⊎◌, List, [], ◌∷◌, length, ◌==◌, nat_lt}
 use Rattle.numbers.specs.Folds.{repeating, count}
 use Rattle.numbers.specs.Checks.{Check, Checks, only, ◌before◌, decision_of}
+use Rattle.numbers.specs.Order.{Decision}
+use Rattle.faults.specs.Faults.{said}
 use Rattle.products.specs.Products.{price_limit}
 use Rattle.dayfile.specs.Limits.{Limits}
 use Rattle.dayfile.specs.Records.{mark_at, correction_at}
@@ -80,6 +82,15 @@ module _ (ms : List Mark) (cs : List Correction) where
         order = CorrectionMark ∷ CorrectionPrice ∷ CorrectionClash ∷ [];
       }
 
+-- what is said of corrections: what the checks decide, and the resent count
+pub record Answer : Type 0 where
+  pub decision : Decision
+  pub resent : ℕ
+
+-- what an answer of the code says
+abbrev pub said_of_corrections : CorrectionsJudged → Answer
+said_of_corrections c = record { decision = said c.decision; resent = c.resent }
+
 -- the same of a list that stands in no file: 2 where a file may not have as many marks or corrections, before the others
 module _ (l : Limits) (ms : List Mark) (cs : List Correction) where
   abbrev pub too_many_corrections : Check
@@ -94,5 +105,5 @@ module _ (l : Limits) (ms : List Mark) (cs : List Correction) where
   correction_list_checks = only too_many_corrections before correction_checks ms cs
 
   -- what they decide, with the resent count, which is 0 where there are too many
-  unfoldable pub corrections_judged : CorrectionsJudged
+  unfoldable pub corrections_judged : Answer
   corrections_judged = record { decision = decision_of correction_list_checks; resent = cond (too_many_corrections.test 0) 0 (resent_of cs) }

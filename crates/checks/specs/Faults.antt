@@ -1,12 +1,8 @@
 -- What the code finds wrong with each record by itself, and how it goes from record to record. No statement about a file rests on this.
-use Rattle.std.specs.Prelude.{◌≡◌, ℕ, zero, suc, ◌+◌, ◌*◌, ◌%◌, ◌≤◌, Bool, false, cond, not, ◌||◌, List, length, ◌==◌, nat_le, nat_lt}
-use Rattle.numbers.specs.Folds.{or_else, first, last, some, Filled}
-use Rattle.numbers.specs.Order.{or_found, sought}
-use Rattle.numbers.specs.declared.Found.{Found}
-use Rattle.numbers.specs.declared.Found.TheVariants.{At, Nothing}
-use Rattle.numbers.specs.declared.deciding.Decision.{Decision}
-use Rattle.numbers.specs.declared.deciding.Decision.TheVariants.{Unmet}
-use Rattle.numbers.specs.declared.deciding.Wanted.{Wanted}
+use Rattle.std.specs.Prelude.{ℕ, zero, suc, ◌+◌, ◌*◌, ◌%◌, ◌≤◌, Bool, false, cond, not, ◌||◌, List, length, ◌==◌, nat_le, nat_lt, Option, Some, None}
+use Rattle.numbers.specs.Folds.{first, last, some, Filled}
+use Rattle.numbers.specs.Order.{pick, sought, Decision, Unmet}
+use Rattle.numbers.specs.declared.wanted.Wanted.{Wanted}
 use Rattle.products.specs.Products.{has_month}
 use Rattle.products.specs.declared.table.Product.{Product}
 use Rattle.dayfile.specs.Limits.{file_limits, year_limit, lots_limit}
@@ -20,11 +16,8 @@ use Rattle.checks.specs.Marks.{no_mark, bad_code, bad_date, high_mark, off_tick_
 use Rattle.checks.specs.Corrections.{bad_price, number_pair, clash_pair, correction_check, CorrectionMark, CorrectionPrice}
 use Rattle.checks.specs.Positions.{bad_lots, position_check, PositionMark, PositionLots}
 use Rattle.checks.specs.declared.marks.MarkFaults.{MarkFaults}
-use Rattle.checks.specs.declared.marks.MarkFindings.{MarkFindings}
 use Rattle.checks.specs.declared.corrections.CorrectionFaults.{CorrectionFaults}
-use Rattle.checks.specs.declared.corrections.CorrectionFindings.{CorrectionFindings}
 use Rattle.checks.specs.declared.positions.PositionFaults.{PositionFaults}
-use Rattle.checks.specs.declared.positions.PositionFindings.{PositionFindings}
 
 -- ---- what is wrong with one record
 
@@ -34,8 +27,12 @@ mark_faults m = record { code = bad_code m; date = bad_date m; high = high_mark 
 abbrev pub correction_faults : List Mark → Correction → CorrectionFaults
 correction_faults ms c = record { missing = no_mark ms c.mark; price = bad_price (mark_at ms c.mark) c.price }
 
+-- a position, given how many marks there are
+abbrev pub counted_faults : ℕ → Position → PositionFaults
+counted_faults n p = record { missing = nat_le n p.mark; lots = bad_lots p.lots }
+
 abbrev pub position_faults : List Mark → Position → PositionFaults
-position_faults ms p = record { missing = no_mark ms p.mark; lots = bad_lots p.lots }
+position_faults ms p = counted_faults (length ms) p
 
 -- a mark of a product
 abbrev pub faults_by : Product → Mark → MarkFaults
@@ -74,56 +71,31 @@ some_correction_fault ms cs = some (λ i. any_correction_fault (correction_fault
 abbrev pub some_position_fault : List Mark → List Position → Bool
 some_position_fault ms ps = some (λ i. any_position_fault (position_faults ms (position_at ps i))) (length ps)
 
--- ---- the first of n records with each fault
+-- ---- the checks one after the other, those that are looked at, each by the first record that fails it
 
-abbrev pub mark_findings : List Mark → ℕ → MarkFindings
-mark_findings ms n =
-    record {
-      code = first (mark_check ms MarkCode).test n;
-      date = first (mark_check ms MarkDate).test n;
-      high = first (mark_check ms MarkLimit).test n;
-      off = first (mark_check ms MarkTick).test n;
-    }
+-- what check k says by what it found, or else what later ones say
+abbrev pub or_next : Wanted → ℕ → Option ℕ → Decision → Decision
+or_next w k found d = pick (sought w k found) k d
 
-abbrev pub correction_findings : List Mark → List Correction → ℕ → CorrectionFindings
-correction_findings ms cs n =
-    record { missing = first (correction_check ms cs CorrectionMark).test n; price = first (correction_check ms cs CorrectionPrice).test n }
+abbrev pub mark_decision : List Mark → Option ℕ → Wanted → Decision
+mark_decision ms repeated w =
+    let n = length ms in
+    or_next w 4 (first (mark_check ms MarkCode).test n)
+    (or_next w 5 (first (mark_check ms MarkDate).test n)
+    (or_next w 6 (first (mark_check ms MarkLimit).test n)
+    (or_next w 7 (first (mark_check ms MarkTick).test n) (or_next w 8 repeated Unmet))))
 
-abbrev pub position_findings : List Mark → List Position → ℕ → PositionFindings
-position_findings ms ps n =
-    record { missing = first (position_check ms ps PositionMark).test n; lots = first (position_check ms ps PositionLots).test n }
+abbrev pub correction_decision : List Mark → List Correction → Option ℕ → Wanted → Decision
+correction_decision ms cs clash w =
+    let n = length cs in
+    or_next w 9 (first (correction_check ms cs CorrectionMark).test n)
+    (or_next w 10 (first (correction_check ms cs CorrectionPrice).test n) (or_next w 11 clash Unmet))
 
--- one record more
-abbrev pub also : Found → Bool → ℕ → Found
-also o b i = or_else o (cond b (At i) Nothing)
-
-pub record WithMark (f : MarkFindings) (faults : MarkFaults) (i : ℕ) (r : MarkFindings) : Type 0 where
-  pub code : r.code ≡ also f.code faults.code i
-  pub date : r.date ≡ also f.date faults.date i
-  pub high : r.high ≡ also f.high faults.high i
-  pub off : r.off ≡ also f.off faults.off i
-
-pub record WithCorrection (f : CorrectionFindings) (faults : CorrectionFaults) (i : ℕ) (r : CorrectionFindings) : Type 0 where
-  pub missing : r.missing ≡ also f.missing faults.missing i
-  pub price : r.price ≡ also f.price faults.price i
-
-pub record WithPosition (f : PositionFindings) (faults : PositionFaults) (i : ℕ) (r : PositionFindings) : Type 0 where
-  pub missing : r.missing ≡ also f.missing faults.missing i
-  pub lots : r.lots ≡ also f.lots faults.lots i
-
--- the checks one after the other, those that are looked at, by what was found
-abbrev pub mark_decision : MarkFindings → Found → Wanted → Decision
-mark_decision f repeated w =
-    or_found (or_found (or_found (or_found (or_found Unmet 4 (sought w 4 f.code)) 5 (sought w 5 f.date)) 6 (sought w 6 f.high))
-    7 (sought w 7 f.off)) 8 (sought w 8 repeated)
-
-abbrev pub correction_decision : CorrectionFindings → Found → Wanted → Decision
-correction_decision f clash w =
-    or_found (or_found (or_found Unmet 9 (sought w 9 f.missing)) 10 (sought w 10 f.price)) 11 (sought w 11 clash)
-
-abbrev pub position_decision : PositionFindings → Found → Wanted → Decision
-position_decision f repeated w =
-    or_found (or_found (or_found Unmet 12 (sought w 12 f.missing)) 13 (sought w 13 f.lots)) 16 (sought w 16 repeated)
+abbrev pub position_decision : List Mark → List Position → Option ℕ → Wanted → Decision
+position_decision ms ps repeated w =
+    let n = length ps in
+    or_next w 12 (first (position_check ms ps PositionMark).test n)
+    (or_next w 13 (first (position_check ms ps PositionLots).test n) (or_next w 16 repeated Unmet))
 
 -- ---- arrays
 
@@ -135,6 +107,10 @@ pub record Ticks (ms : List Mark) (a : List ℕ) : Type 0 where
   pub few : length ms ≤ file_limits.marks
   pub ticks : Filled 0 (tick_at ms) (length ms) a
 
+-- the tick of a mark, where there is one
+abbrev pub tick_from : List Mark → ℕ → Option ℕ
+tick_from ms m = cond (nat_lt m (length ms)) (Some (tick_at ms m)) None
+
 -- an array has for each correction the last earlier one with its number, as one more than its index
 pub record Lasts (cs : List Correction) (a : List ℕ) : Type 0 where
   pub few : length cs ≤ file_limits.corrections
@@ -144,7 +120,3 @@ pub record Lasts (cs : List Correction) (a : List ℕ) : Type 0 where
 unfoldable pub clashes_below : List Correction → ℕ → ℕ → Bool
 clashes_below cs i zero = false
 clashes_below cs i (suc j) = clash_pair cs i j
-
--- 1 where a test is passed
-abbrev pub bit : Bool → ℕ
-bit b = cond b 1 0

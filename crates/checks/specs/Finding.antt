@@ -1,7 +1,6 @@
 -- What one check finds in a file by itself, whatever the others say.
-use Rattle.std.specs.Prelude.{ℕ, Bool, true, false, List, length, nat_lt}
+use Rattle.std.specs.Prelude.{ℕ, Bool, true, false, List, length, nat_lt, Option}
 use Rattle.numbers.specs.Checks.{Checks, finding_by}
-use Rattle.numbers.specs.declared.Found.{Found}
 use Rattle.dayfile.specs.Limits.{Limits}
 use Rattle.dayfile.specs.Layout.{header_size, counts_of}
 use Rattle.dayfile.specs.Opening.{within_limits, looked_at}
@@ -17,5 +16,5 @@ abbrev pub checks_of : Limits → List ℕ → Checks
 checks_of l f = looked l f (nat_lt (length f) header_size) (within_limits l (counts_of f))
 
 -- the first record where the condition of check k holds
-unfoldable pub found_of : Limits → List ℕ → ℕ → Found
+unfoldable pub found_of : Limits → List ℕ → ℕ → Option ℕ
 found_of l f k = finding_by (checks_of l f) k

@@ -1,18 +1,23 @@
 -- What the checks say of three lists of records, and checks 1 to 13 and 16 of a whole file.
-use Rattle.std.specs.Prelude.{ℕ, ◌<◌, ◌||◌, ◌⊎◌, List, length, nat_lt}
+use Rattle.std.specs.Prelude.{Result, Ok, Err, ℕ, ◌<◌, ◌||◌, ◌⊎◌, List, length, nat_lt}
 use Rattle.numbers.specs.Checks.{Check, Checks, only, ◌before◌, decision_of}
-use Rattle.numbers.specs.declared.deciding.Decision.{Decision}
-use Rattle.numbers.specs.declared.deciding.Decision.TheVariants.{Met, Unmet}
 use Rattle.dayfile.specs.Limits.{Limits}
-use Rattle.dayfile.specs.Records.{Lists}
+use Rattle.dayfile.specs.Records.{Lists, lists_of}
 use Rattle.dayfile.specs.Layout.{counts_of, lists_of_file}
 use Rattle.dayfile.specs.Opening.{header_checks}
 use Rattle.dayfile.specs.declared.file.DayFile.{DayFile}
+use Rattle.faults.specs.Faults.{number_of}
+use Rattle.faults.specs.declared.refusal.Refusal.{Refusal}
+use Rattle.checks.specs.declared.judging.PassedFile.{PassedFile}
+use Rattle.checks.specs.declared.lists.Records.{Records}
 use Rattle.checks.specs.Marks.{mark_checks}
 use Rattle.checks.specs.Corrections.{correction_checks, resent_of}
 use Rattle.checks.specs.Positions.{position_checks}
-use Rattle.checks.specs.declared.judging.Judged.{Judged}
-use Rattle.checks.specs.declared.judging.Judged.TheVariants.{Passed, Refused}
+use Rattle.numbers.specs.Order.{Decision, Met, Unmet}
+
+-- three lists by their bytes
+abbrev pub lists_of_records : Records → Lists
+lists_of_records r = lists_of r.marks.now r.corrections.now r.positions.now
 
 -- the checks over the records of three lists: 4 to 13 and 16
 abbrev pub record_checks : Lists → Checks
@@ -38,6 +43,16 @@ module _ (l : Limits) (ls : Lists) where
 -- those over a file: 1 to 13 and 16
 abbrev pub file_checks : Limits → List ℕ → Checks
 file_checks l f = header_checks l f before record_checks (lists_of_file f)
+
+-- a file's counts and its resent count, or a check's number and a record's index
+pub data Judged : Type 0 where
+  Passed : DayFile → ℕ → Judged
+  Refused : ℕ → ℕ → Judged
+
+-- what an answer of the code says
+abbrev pub judged : Result PassedFile Refusal → Judged
+judged (Ok p) = Passed p.counts p.resent
+judged (Err r) = Refused (number_of r.fault) r.index
 
 abbrev pub judged_by : DayFile → ℕ → Decision → Judged
 judged_by counts resent (Met k i) = Refused k i

@@ -1,5 +1,5 @@
 -- The checks over the marks: 4 to 8.
-use Rattle.std.specs.Prelude.{◌≡◌, ℕ, ◌%◌, ◌<◌, Bool, not, ◌&&◌, ◌||◌, ◌⊎◌, List, [], ◌∷◌, length, ◌==◌, nat_le, nat_lt}
+use Rattle.std.specs.Prelude.{◌≡◌, ℕ, ◌%◌, ◌<◌, Bool, not, ◌&&◌, ◌||◌, ◌⊎◌, List, [], ◌∷◌, length, ◌==◌, nat_le, nat_lt, Some}
 use mathlib.Core.List.{Memᴰ}
 use Rattle.std.specs.Int.{◌∣◌}
 use Rattle.numbers.specs.Folds.{repeating}
@@ -7,7 +7,6 @@ use Rattle.numbers.specs.Checks.{Check, Checks, only, ◌before◌}
 use Rattle.products.specs.Products.{price_limit, find, months_of, Unlisted}
 use Rattle.products.specs.declared.table.Code.{Code}
 use Rattle.products.specs.declared.table.Product.{Product}
-use Rattle.products.specs.declared.table.NamedProduct.TheVariants.{Named}
 use Rattle.dayfile.specs.Limits.{Limits, year_limit}
 use Rattle.dayfile.specs.Records.{mark_at}
 use Rattle.dayfile.specs.declared.records.Mark.{Mark}
@@ -17,11 +16,11 @@ use Rattle.checks.specs.Table.{above_limit, listed, code_has_month, tick_of}
 
 -- the product table has the code, and the month is one of the product's
 abbrev pub HasMonth : Code → ℕ → Type 0
-HasMonth code month = (product : Product) × (find code ≡ Named product) × Memᴰ month (months_of product)
+HasMonth code month = (product : Product) × (find code ≡ Some product) × Memᴰ month (months_of product)
 
 -- a price is not a multiple of the tick of a mark's product
 abbrev pub OffTick : Mark → ℕ → Type 0
-OffTick m p = (product : Product) × (find m.code ≡ Named product) × ¬ (product.tick ∣ p)
+OffTick m p = (product : Product) × (find m.code ≡ Some product) × ¬ (product.tick ∣ p)
 
 abbrev pub off_tick : Mark → ℕ → Bool
 off_tick m p = not (p % tick_of m.code == 0)

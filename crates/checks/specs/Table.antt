@@ -1,22 +1,21 @@
 -- What the checks ask of the product table, and the price limit.
-use Rattle.std.specs.Prelude.{ℕ, Bool, true, false, nat_lt}
+use Rattle.std.specs.Prelude.{ℕ, Bool, true, false, nat_lt, Option, Some, None}
 use Rattle.products.specs.Products.{price_limit, find, has_month}
 use Rattle.products.specs.declared.table.Code.{Code}
-use Rattle.products.specs.declared.table.NamedProduct.{NamedProduct}
-use Rattle.products.specs.declared.table.NamedProduct.TheVariants.{Named, Missing}
+use Rattle.products.specs.declared.table.Product.{Product}
 
-abbrev pub listed_in : NamedProduct → Bool
-listed_in (Named product) = true
-listed_in Missing = false
+abbrev pub listed_in : Option Product → Bool
+listed_in (Some product) = true
+listed_in None = false
 
-abbrev pub has_month_in : NamedProduct → ℕ → Bool
-has_month_in (Named product) m = has_month product m
-has_month_in Missing m = false
+abbrev pub has_month_in : Option Product → ℕ → Bool
+has_month_in (Some product) m = has_month product m
+has_month_in None m = false
 
 -- a tick, 1 where there is no product
-abbrev pub tick_in : NamedProduct → ℕ
-tick_in (Named product) = product.tick
-tick_in Missing = 1
+abbrev pub tick_in : Option Product → ℕ
+tick_in (Some product) = product.tick
+tick_in None = 1
 
 -- a price is above the highest one
 abbrev pub above_limit : ℕ → Bool

@@ -5,11 +5,13 @@ mod clashes;
 mod corrections;
 mod finding;
 mod judging;
+mod lists;
 mod marks;
 mod positions;
 
 pub use corrections::{CorrectionsJudged, check_corrections};
 pub use finding::find;
-pub use judging::{Judged, check_records, judge, too_many};
+pub use judging::{PassedFile, check_records, judge, too_many};
+pub use lists::Marks;
 pub use marks::check_marks;
 pub use positions::check_positions;

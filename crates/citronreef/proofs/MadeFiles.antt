@@ -7,7 +7,6 @@ use lib.IntN.{ℤ}
 use lib.ListN.{length, take}
 use Rattle.numbers.specs.Bytes.{bytes_of}
 use Rattle.numbers.specs.Checks.{decision_of}
-use Rattle.numbers.specs.declared.deciding.Decision.TheVariants.{Unmet}
 use Rattle.numbers.proofs.Sections.{size_is}
 use Rattle.dayfile.specs.Limits.{file_limits}
 use Rattle.dayfile.specs.Records.{correction_size, position_size, position_of, Lists, lists_of}
@@ -16,7 +15,7 @@ use Rattle.dayfile.specs.declared.file.DayFile.{DayFile}
 use Rattle.dayfile.proofs.Made.{made_lists}
 use Rattle.dayfile.proofs.Opening.{opens}
 use Rattle.checks.specs.Judging.{record_checks, judged_of}
-use Rattle.checks.specs.declared.judging.Judged.TheVariants.{Passed}
+use Rattle.checks.specs.Judging.{Passed}
 use Rattle.checks.proofs.Refusals.{judged_passes}
 use Rattle.checks.proofs.Passed.{passed_parts}
 use Rattle.settlement.specs.Settling.{accept, totals, paid, plan_of, answer_of, amounts_after}
@@ -29,6 +28,7 @@ use Rattle.making.specs.Making.{answer_of as makerAnswerOf}
 use Rattle.making.proofs.Planned.{Fitting}
 use Rattle.making.proofs.Promises as promises
 use Rattle.making.proofs.RoundTrip.{reads, makes, file_stands}
+use Rattle.numbers.specs.Order.{Unmet}
 
 -- ---- a made file is accepted
 

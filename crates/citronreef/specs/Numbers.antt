@@ -1,5 +1,5 @@
 -- The answers as the structs of numbers that C and Rust are handed.
-use Rattle.std.specs.Prelude.{ℕ, pos}
+use Rattle.std.specs.Prelude.{ℕ, pos, Option, Some, None}
 use Rattle.pricing.specs.Calls as calls
 use Rattle.settlement.specs.Settling as settling
 use Rattle.settlement.specs.Prices.{Highest, NoneYet, Numbered}
@@ -10,8 +10,6 @@ use Rattle.citronreef.specs.declared.Outcome.{Outcome}
 use Rattle.citronreef.specs.declared.MarkOutcome.{MarkOutcome}
 use Rattle.citronreef.specs.declared.Finding.{Finding}
 use Rattle.citronreef.specs.declared.Making.{Making}
-use Rattle.numbers.specs.declared.Found.{Found}
-use Rattle.numbers.specs.declared.Found.TheVariants.{At, Nothing}
 
 -- the answer of a call on one contract
 abbrev pub quote_of : calls.Answer → Quote
@@ -41,9 +39,9 @@ mark_outcome_of (marks.priced previous last d change) =
 mark_outcome_of (marks.refused k i) = record { refused = k; index = i; previous = 0; last = 0; corrected = 0; number = 0; change = pos 0 }
 
 -- what a check finds by itself
-abbrev pub finding_of : Found → Finding
-finding_of (At i) = record { found = 1; index = i }
-finding_of Nothing = record { found = 0; index = 0 }
+abbrev pub finding_of : Option ℕ → Finding
+finding_of (Some i) = record { found = 1; index = i }
+finding_of None = record { found = 0; index = 0 }
 
 -- the answer of the maker
 abbrev pub making_of : making.Answer → Making

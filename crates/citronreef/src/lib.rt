@@ -1,7 +1,9 @@
-// The functions that C and Rust call: numbers and slices in, one struct of numbers out. include/citronreef.h declares them.
+// The functions that C and Rust call: numbers and slices in, one struct of numbers out. include/citronreef.h declares them. C has no Option
+// and no Result: a flag or a number says which of the others hold; its numbers are u64, to which no `From` leads from usize.
 #![tactic(auto)]
 
-ghost use Rattle.std.specs.Prelude.{◌≡◌, cond, length};
+ghost use Rattle.std.specs.Prelude.{◌≡◌, length};
+ghost use Rattle.faults.specs.Faults.{number_of};
 ghost use Rattle.pricing.specs.Calls.{said, value_of, tick_value_of, bracket_of};
 ghost use Rattle.report.specs.Sheet.{sheet_within, amounts_within};
 ghost use Rattle.dayfile.specs.Limits.{file_limits};
@@ -15,15 +17,13 @@ ghost use Rattle.checks.specs.Finding.{found_of};
 ghost use Rattle.making.specs.Making.{buffer_after};
 ghost use Rattle.making.specs.Making.{said as said_of_maker, answer_of as maker_answer_of};
 
-use making::Made;
-use numbers::Found;
-use pricing::Priced;
+use faults::{Fault, Refusal};
 use products::Code;
-use settlement::{MarkPrices, Settlement};
+use settlement::{MarkPrices, Settled};
 
 // The answer of a call on one contract: the number given, with a refused of 0; or the number of the check that refuses it.
 #[repr(C)]
-#[derive(Clone, Copy)]
+#[derive(Clone, Copy, Debug, PartialEq, Eq)]
 pub struct Quote {
     pub refused: u64,
     pub number: u64,
@@ -32,7 +32,7 @@ pub struct Quote {
 // The answer to a day file. Where it is accepted refused and index are 0; where it is refused they say by which check and at
 // which record, and the rest is 0.
 #[repr(C)]
-#[derive(Clone, Copy)]
+#[derive(Clone, Copy, Debug, PartialEq, Eq)]
 pub struct Outcome {
     pub refused: u64,
     pub index: u64,
@@ -42,49 +42,55 @@ pub struct Outcome {
     pub resent: u64,
 }
 
-fn contract_numbers(p: Priced) -> Quote
-    ensures { result ≡ quote_of (said p) }
+// The number of a fault.
+fn number(fault: Fault) -> u64
+    ensures { result ≡ number_of fault }
 {
-    match p {
-        Priced::Given(number) => Quote { refused: 0, number },
-        Priced::Refused(k) => Quote {
-            refused: k as u64,
-            number: 0,
-        },
+    u64::from(u32::from(fault))
+}
+
+impl From<Result<u64, Fault>> for Quote {
+    ghost from_gives = { λ p q. q ≡ quote_of (said p) };
+
+    fn from(p: Result<u64, Fault>) -> Quote {
+        match p {
+            Ok(number) => Quote { refused: 0, number },
+            Err(fault) => Quote {
+                refused: number(fault),
+                number: 0,
+            },
+        }
     }
 }
 
-fn day_numbers(s: Settlement) -> Outcome
-    ensures { result ≡ outcome_of (said_of_day s) }
-{
-    match s {
-        Settlement::Settled {
-            positions,
-            aud,
-            nzd,
-            resent,
-        } => Outcome {
-            refused: 0,
-            index: 0,
-            positions: positions as u64,
-            aud: aud.cents(),
-            nzd: nzd.cents(),
-            resent: resent as u64,
-        },
-        Settlement::Refused { number, index } => Outcome {
-            refused: number as u64,
-            index: index as u64,
-            positions: 0,
-            aud: 0,
-            nzd: 0,
-            resent: 0,
-        },
+impl From<Result<Settled, Refusal>> for Outcome {
+    ghost from_gives = { λ s o. o ≡ outcome_of (said_of_day s) };
+
+    fn from(s: Result<Settled, Refusal>) -> Outcome {
+        match s {
+            Ok(settled) => Outcome {
+                refused: 0,
+                index: 0,
+                positions: settled.positions as u64,
+                aud: settled.aud.cents(),
+                nzd: settled.nzd.cents(),
+                resent: settled.resent as u64,
+            },
+            Err(Refusal { fault, index }) => Outcome {
+                refused: number(fault),
+                index: index as u64,
+                positions: 0,
+                aud: 0,
+                nzd: 0,
+                resent: 0,
+            },
+        }
     }
 }
 
 // What is said of one mark of a day file. Where it is refused, refused and index say by which check and at which record, and the rest is 0.
 #[repr(C)]
-#[derive(Clone, Copy)]
+#[derive(Clone, Copy, Debug, PartialEq, Eq)]
 pub struct MarkOutcome {
     pub refused: u64,
     pub index: u64,
@@ -95,95 +101,81 @@ pub struct MarkOutcome {
     pub change: i64,
 }
 
-// 1 where a correction decides.
-fn one_if(b: bool) -> u64
-    ensures { result ≡ cond b 1 0 }
-{
-    if b { 1 } else { 0 }
-}
+impl From<Result<MarkPrices, Refusal>> for MarkOutcome {
+    ghost from_gives = { λ p o. o ≡ mark_outcome_of (said_of_mark p) };
 
-// Its number, and 0 where none does.
-fn number_if(b: bool, number: u32) -> u64
-    ensures { result ≡ cond b number 0 }
-{
-    if b { number as u64 } else { 0 }
-}
-
-fn mark_numbers(p: MarkPrices) -> MarkOutcome
-    ensures { result ≡ mark_outcome_of (said_of_mark p) }
-{
-    match p {
-        MarkPrices::Priced {
-            previous,
-            last,
-            corrected,
-            number,
-            change,
-        } => MarkOutcome {
-            refused: 0,
-            index: 0,
-            previous: previous as u64,
-            last: last as u64,
-            corrected: one_if(corrected),
-            number: number_if(corrected, number),
-            change,
-        },
-        MarkPrices::Refused { number, index } => MarkOutcome {
-            refused: number as u64,
-            index: index as u64,
-            previous: 0,
-            last: 0,
-            corrected: 0,
-            number: 0,
-            change: 0,
-        },
+    fn from(p: Result<MarkPrices, Refusal>) -> MarkOutcome {
+        match p {
+            Ok(prices) => MarkOutcome {
+                refused: 0,
+                index: 0,
+                previous: u64::from(prices.previous),
+                last: u64::from(prices.last),
+                corrected: u64::from(prices.corrected_by.is_some()),
+                number: prices.corrected_by.map_or(0, u64::from),
+                change: prices.change,
+            },
+            Err(Refusal { fault, index }) => MarkOutcome {
+                refused: number(fault),
+                index: index as u64,
+                previous: 0,
+                last: 0,
+                corrected: 0,
+                number: 0,
+                change: 0,
+            },
+        }
     }
 }
 
 // The record where the condition of one check holds first. Where none is found, both are 0.
 #[repr(C)]
-#[derive(Clone, Copy)]
+#[derive(Clone, Copy, Debug, PartialEq, Eq)]
 pub struct Finding {
     pub found: u64,
     pub index: u64,
 }
 
-fn finding_numbers(f: Found) -> Finding
-    ensures { result ≡ finding_of f }
-{
-    match f {
-        Found::At(i) => Finding {
-            found: 1,
-            index: i as u64,
-        },
-        Found::Nothing => Finding { found: 0, index: 0 },
+impl From<Option<usize>> for Finding {
+    ghost from_gives = { λ f o. o ≡ finding_of f };
+
+    fn from(f: Option<usize>) -> Finding {
+        match f {
+            Some(i) => Finding {
+                found: 1,
+                index: i as u64,
+            },
+            None => Finding { found: 0, index: 0 },
+        }
     }
 }
 
 // The answer of the maker: the file's length, with a refused and an index of 0. Where it is refused, refused and index say by which
 // check and at which record, and the length is 0.
 #[repr(C)]
-#[derive(Clone, Copy)]
+#[derive(Clone, Copy, Debug, PartialEq, Eq)]
 pub struct Making {
     pub refused: u64,
     pub index: u64,
     pub length: u64,
 }
 
-fn making_numbers(m: Made) -> Making
-    ensures { result ≡ making_of (said_of_maker m) }
-{
-    match m {
-        Made::File { length } => Making {
-            refused: 0,
-            index: 0,
-            length: length as u64,
-        },
-        Made::Refused { number, index } => Making {
-            refused: number as u64,
-            index: index as u64,
-            length: 0,
-        },
+impl From<Result<usize, Refusal>> for Making {
+    ghost from_gives = { λ m o. o ≡ making_of (said_of_maker m) };
+
+    fn from(m: Result<usize, Refusal>) -> Making {
+        match m {
+            Ok(length) => Making {
+                refused: 0,
+                index: 0,
+                length: length as u64,
+            },
+            Err(Refusal { fault, index }) => Making {
+                refused: number(fault),
+                index: index as u64,
+                length: 0,
+            },
+        }
     }
 }
 
@@ -192,7 +184,7 @@ fn making_numbers(m: Made) -> Making
 pub extern "C" fn citronreef_value(first: u8, second: u8, price: u32) -> Quote
     ensures { result ≡ quote_of (value_of (first, second) price) }
 {
-    contract_numbers(pricing::value(Code(first, second), price))
+    Quote::from(pricing::value(Code(first, second), price))
 }
 
 // The value one tick higher, minus the value.
@@ -200,7 +192,7 @@ pub extern "C" fn citronreef_value(first: u8, second: u8, price: u32) -> Quote
 pub extern "C" fn citronreef_tick_value(first: u8, second: u8, price: u32) -> Quote
     ensures { result ≡ quote_of (tick_value_of (first, second) price) }
 {
-    contract_numbers(pricing::tick_value(Code(first, second), price))
+    Quote::from(pricing::tick_value(Code(first, second), price))
 }
 
 // A bond's bracket, in units of 10^-8.
@@ -208,7 +200,7 @@ pub extern "C" fn citronreef_tick_value(first: u8, second: u8, price: u32) -> Qu
 pub extern "C" fn citronreef_bracket(first: u8, second: u8, price: u32) -> Quote
     ensures { result ≡ quote_of (bracket_of (first, second) price) }
 {
-    contract_numbers(pricing::bracket(Code(first, second), price))
+    Quote::from(pricing::bracket(Code(first, second), price))
 }
 
 // The settlement of a day file. The amounts of an accepted file stand in the first places of the slice.
@@ -217,7 +209,7 @@ pub extern "C" fn citronreef_settle(file: &[u8], amounts: &mut [i64]) -> Outcome
     ensures answer { result ≡ outcome_of (answer_of file_limits file.now (length amounts.old)) }
     ensures written { amounts.new ≡ amounts_after file_limits file.now amounts.old }
 {
-    day_numbers(settlement::settle(file, amounts))
+    Outcome::from(settlement::settle(file, amounts))
 }
 
 // The prices of one mark of a day file, the correction that decides, and the change in value of one contract.
@@ -225,7 +217,7 @@ pub extern "C" fn citronreef_settle(file: &[u8], amounts: &mut [i64]) -> Outcome
 pub extern "C" fn citronreef_mark(file: &[u8], mark: usize) -> MarkOutcome
     ensures { result ≡ mark_outcome_of (mark_answer_of file_limits file.now mark) }
 {
-    mark_numbers(settlement::mark(file, mark))
+    MarkOutcome::from(settlement::mark(file, mark))
 }
 
 // The first record of a day file where the condition of one of checks 1 to 13 and 16 holds, whatever the others say, as far as a
@@ -234,7 +226,7 @@ pub extern "C" fn citronreef_mark(file: &[u8], mark: usize) -> MarkOutcome
 pub extern "C" fn citronreef_find(file: &[u8], check: u32) -> Finding
     ensures { result ≡ finding_of (found_of file_limits file.now check) }
 {
-    finding_numbers(checks::find(file, check))
+    Finding::from(checks::find(file, check))
 }
 
 // Settles a day file into the lent amounts, writes its sheet at the start of `out`, and answers the sheet's length. With room for
@@ -262,5 +254,5 @@ pub extern "C" fn citronreef_make(
     ensures written { out.new
         ≡ buffer_after file_limits marks.now corrections.now positions.now out.old }
 {
-    making_numbers(making::make(marks, corrections, positions, out))
+    Making::from(making::make(marks, corrections, positions, out))
 }

@@ -15,7 +15,7 @@ use Rattle.dayfile.specs.Opening.{opened_of}
 use Rattle.dayfile.specs.WithinLimits.{WholeRecords}
 use Rattle.dayfile.specs.Making.{counts_in, entry_bytes, header_of, made_of}
 use Rattle.dayfile.specs.declared.file.DayFile.{DayFile}
-use Rattle.dayfile.specs.declared.file.Opened.TheVariants.{File}
+use Rattle.dayfile.specs.Opening.{File}
 use Rattle.dayfile.proofs.Parts.{marks_sized, corrections_sized, positions_sized}
 use Rattle.dayfile.proofs.Opening.{opens, opens_file, laid_out}
 

@@ -1,4 +1,5 @@
 -- A file that passes checks 1 to 3, and what the tests of the header say of one that does not.
+use Rattle.std.proofs.Common.{Some, None}
 use mathlib.Core.Path.{◌≡◌, refl, sym, ◌∙◌}
 use mathlib.Core.Bool.{Bool, true, false, cond, not, ◌&&◌}
 use mathlib.Core.List.{List}
@@ -10,23 +11,21 @@ use lib.ListN.{length}
 use borrow.Author.Tests.{eqb-true, eq-eqb, ltb-false, le-ltb, leb-true, le-leb}
 use Rattle.numbers.specs.Bytes.{u32_at}
 use Rattle.numbers.specs.Folds.{first}
-use Rattle.numbers.specs.Order.{pick}
+use Rattle.numbers.specs.Order.{pick, Unmet}
 use Rattle.numbers.specs.Checks.{decision_of}
-use Rattle.numbers.specs.declared.Found.TheVariants.{At, Nothing}
-use Rattle.numbers.specs.declared.deciding.Decision.TheVariants.{Unmet}
 use Rattle.dayfile.specs.Limits.{Limits, file_limits}
 use Rattle.dayfile.specs.Layout.{counts_of, header_size, corrections_start, positions_start, length_of}
 use Rattle.dayfile.specs.Opening.{within_limits, as_laid_out, opened_by, opened_of, counted_of}
 use Rattle.dayfile.specs.WithinLimits.{CountsWithinLimits, LaidOut}
 use Rattle.dayfile.specs.declared.file.DayFile.{DayFile}
-use Rattle.dayfile.specs.declared.file.Opened.TheVariants.{File, Refused}
+use Rattle.dayfile.specs.Opening.{File, Refused}
 use Rattle.numbers.proofs.Truth.{and_left, and_right}
 
 -- ---- the tests, one after the other
 
 module _ (l : Limits) (f : List ℕ) where
   by_tests_in_order : (short inside laid : Bool)
-      → opened_by f (pick (cond short (At 0) Nothing) 1 (pick (cond (not inside) (At 0) Nothing) 2 (pick (cond (not laid) (At 0) Nothing) 3 Unmet)))
+      → opened_by f (pick (cond short (Some 0) None) 1 (pick (cond (not inside) (Some 0) None) 2 (pick (cond (not laid) (Some 0) None) 3 Unmet)))
       ≡ cond short (Refused 1) (cond inside (cond laid (File (counts_of f)) (Refused 3)) (Refused 2))
   by_tests_in_order true inside laid = refl
   by_tests_in_order false false laid = refl
@@ -53,9 +52,9 @@ pub record Opens (l : Limits) (f : List ℕ) : Type 0 where
 module _ (l : Limits) (f : List ℕ) where
   by_tests : (short inside laid : Bool) {d : DayFile} → cond short (Refused 1) (cond inside (cond laid (File (counts_of f)) (Refused 3)) (Refused 2)) ≡ File d
       → (short ≡ false) × (inside ≡ true) × (laid ≡ true) × (counts_of f ≡ d)
-  by_tests true inside laid p = absurd (let z : ◌≡◌ {A = ℕ} 0 1 = cc in omega arith)
-  by_tests false false laid p = absurd (let z : ◌≡◌ {A = ℕ} 0 1 = cc in omega arith)
-  by_tests false true false p = absurd (let z : ◌≡◌ {A = ℕ} 0 1 = cc in omega arith)
+  by_tests true inside laid p = cc
+  by_tests false false laid p = cc
+  by_tests false true false p = cc
   by_tests false true true p = (refl, refl, refl, cc)
 
   opens_of : ltb (length f) header_size ≡ false → within_limits l (counts_of f) ≡ true → as_laid_out f (counts_of f) ≡ true → Opens l f
@@ -100,8 +99,8 @@ module _ (l : Limits) (f : List ℕ) where
 module _ (l : Limits) (f : List ℕ) where
   by_two : (short inside : Bool) {d : DayFile} → cond short (Refused 1) (cond inside (File (counts_of f)) (Refused 2)) ≡ File d
       → (short ≡ false) × (inside ≡ true) × (counts_of f ≡ d)
-  by_two true inside p = absurd (let z : ◌≡◌ {A = ℕ} 0 1 = cc in omega arith)
-  by_two false false p = absurd (let z : ◌≡◌ {A = ℕ} 0 1 = cc in omega arith)
+  by_two true inside p = cc
+  by_two false false p = cc
   by_two false true p = (refl, refl, cc)
 
   pub counted-file : {d : DayFile} → counted_of l f ≡ File d → (ltb (length f) header_size ≡ false) × (within_limits l (counts_of f) ≡ true) × (counts_of f ≡ d)
@@ -113,7 +112,7 @@ module _ (l : Limits) (f : List ℕ) where
       → Refused k ≡ cond short (Refused 1) (cond inside (cond laid (File (counts_of f)) (Refused 3)) (Refused 2))
   refused_by_two true inside laid p = sym p
   refused_by_two false false laid p = sym p
-  refused_by_two false true laid p = absurd (let z : ◌≡◌ {A = ℕ} 0 1 = cc in omega arith)
+  refused_by_two false true laid p = cc
 
   pub counted-refused : {k : ℕ} → counted_of l f ≡ Refused k → Refused k ≡ opened_of l f
   unfolding counted_of

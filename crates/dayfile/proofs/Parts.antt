@@ -1,7 +1,7 @@
 -- The sections of a file that has the length of its layout.
 use mathlib.Core.Path.{◌≡◌, ◌∙◌}
 use mathlib.Core.List.{List, map}
-use Prim.Native.Nat.{ℕ, ◌+◌, ◌-◌, ◌*◌, ◌/◌, ◌≤◌}
+use Prim.Native.Nat.{ℕ, ◌+◌, ◌*◌, ◌/◌, ◌≤◌}
 use native.Mathlib.Omega.{arith}
 use lib.ListN.{length}
 use Rattle.numbers.specs.Bytes.{u32_at, part, records_of}
@@ -44,10 +44,6 @@ pub header-counts : (f : List ℕ) → length f ≡ length_of (counts_of f)
     → (length (lists_of_file f).marks ≡ u32_at f 0) × (length (lists_of_file f).corrections ≡ u32_at f 8) × (length (lists_of_file f).positions ≡ u32_at f 16)
 unfolding counts_of
 header-counts f whole = (marks_sized f (counts_of f) whole, corrections_sized f (counts_of f) whole, positions_sized f (counts_of f) whole)
-
--- the bytes between two offsets are a section
-pub section_is : (s : List ℕ) (n : ℕ) {a b e : ℕ} {r : List ℕ} → r ≡ part a (e - a) s → a ≡ b → e ≡ b + n → r ≡ part b n s
-section_is s n {a} {b} {e} p q h = let k : e - a ≡ n = omega arith in rw (← q, ← k) p
 
 -- the three lists of a file's sections
 pub lists_are : (s : List ℕ) (d : DayFile) {m c p : List ℕ} → m ≡ mark_bytes s d → c ≡ correction_bytes s d → p ≡ position_bytes s d → lists_of m c p ≡ lists_in s d

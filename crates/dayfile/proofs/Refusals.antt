@@ -9,15 +9,14 @@ use lib.Dec.{leb, eqb}
 use lib.ListN.{length}
 use Rattle.numbers.specs.Bytes.{u32_at}
 use Rattle.numbers.specs.Checks.{Refuses, Passes, decision_of}
-use Rattle.numbers.specs.declared.deciding.Decision.{Decision}
-use Rattle.numbers.specs.declared.deciding.Decision.TheVariants.{Met, Unmet}
 use Rattle.numbers.proofs.Truth.{tells_as, tells_not, tells_either, tells_lt, tells_above, tells_eq, or_three, or_three_back, or_four, or_four_back}
 use Rattle.numbers.proofs.Checks.{Agree, refuses_exactly, passes_exactly}
 use Rattle.dayfile.specs.Limits.{Limits}
 use Rattle.dayfile.specs.Layout.{header_size, counts_of, corrections_start, positions_start, length_of}
 use Rattle.dayfile.specs.Opening.{Short, Counts, Layout, header_checks, opened_by, opened_of}
 use Rattle.dayfile.specs.declared.file.DayFile.{DayFile}
-use Rattle.dayfile.specs.declared.file.Opened.TheVariants.{File, Refused}
+use Rattle.dayfile.specs.Opening.{File, Refused}
+use Rattle.numbers.specs.Order.{Decision, Met, Unmet}
 
 module _ (l : Limits) (f : List ℕ) where
   pub header_agrees : Agree (header_checks l f)
@@ -43,7 +42,7 @@ module _ (l : Limits) (f : List ℕ) where
 
   refused_by : (d : Decision) → decision_of (header_checks l f) ≡ d → {k : ℕ} → opened_by f d ≡ Refused k → decision_of (header_checks l f) ≡ Met k 0
   refused_by (Met n i) e p = let z : i ≡ 0 = met_zero e in cc
-  refused_by Unmet e p = absurd (let z : ◌≡◌ {A = ℕ} 0 1 = cc in omega arith)
+  refused_by Unmet e p = cc
 
   -- the answer as a decision
   pub refused_decides : {k : ℕ} → opened_of l f ≡ Refused k → decision_of (header_checks l f) ≡ Met k 0
@@ -55,7 +54,7 @@ module _ (l : Limits) (f : List ℕ) where
   opened_decides {d} p = by_decision (decision_of (header_checks l f)) refl p
     where
       by_decision : (x : Decision) → decision_of (header_checks l f) ≡ x → opened_by f x ≡ File d → (decision_of (header_checks l f) ≡ Unmet) × (counts_of f ≡ d)
-      by_decision (Met n i) e q = absurd (let z : ◌≡◌ {A = ℕ} 0 1 = cc in omega arith)
+      by_decision (Met n i) e q = cc
       by_decision Unmet e q = (e, cc)
 
   -- It is refused with k exactly where the condition of check k is the first that holds.

@@ -1,17 +1,14 @@
 -- Checks 1 to 3, over a file's header and its length.
-use Rattle.std.specs.Prelude.{Bool, true, false, cond, not, ◌&&◌, List, [], ◌∷◌, ◌⊎◌, ◌≢◌, ℕ, ◌<◌, leb, ltb, eqb, length}
+use Rattle.std.specs.Prelude.{Result, Ok, Err, Bool, true, false, cond, not, ◌&&◌, List, [], ◌∷◌, ◌⊎◌, ◌≢◌, ℕ, ◌<◌, leb, ltb, eqb, length, Some, None}
 use Rattle.numbers.specs.Bytes.{u32_at}
-use Rattle.numbers.specs.Order.{or_found, sought}
+use Rattle.numbers.specs.Order.{or_found, sought, Decision, Met, Unmet}
 use Rattle.numbers.specs.Checks.{Check, Checks, only, decision_of, decision_for}
-use Rattle.numbers.specs.declared.Found.TheVariants.{At, Nothing}
-use Rattle.numbers.specs.declared.deciding.Decision.{Decision}
-use Rattle.numbers.specs.declared.deciding.Decision.TheVariants.{Met, Unmet}
-use Rattle.numbers.specs.declared.deciding.Wanted.{Wanted}
+use Rattle.numbers.specs.declared.wanted.Wanted.{Wanted}
+use Rattle.faults.specs.Faults.{number_of}
+use Rattle.faults.specs.declared.fault.Fault.{Fault}
 use Rattle.dayfile.specs.Limits.{Limits}
 use Rattle.dayfile.specs.Layout.{header_size, counts_of, corrections_start, positions_start, length_of}
 use Rattle.dayfile.specs.declared.file.DayFile.{DayFile}
-use Rattle.dayfile.specs.declared.file.Opened.{Opened}
-use Rattle.dayfile.specs.declared.file.Opened.TheVariants.{File, Refused}
 
 abbrev pub within_limits : Limits → DayFile → Bool
 within_limits l d = leb d.marks l.marks && leb d.corrections l.corrections && leb d.positions l.positions
@@ -52,6 +49,16 @@ module _ (l : Limits) (f : List ℕ) where
   abbrev pub header_checks : Checks
   header_checks = record { Name = HeaderCheck; check = header_check; size = λ c. 1; order = Short ∷ Counts ∷ Layout ∷ [] }
 
+-- the file's counts, or the number of the check that it fails
+pub data Opened : Type 0 where
+  File : DayFile → Opened
+  Refused : ℕ → Opened
+
+-- what an answer of the code says
+abbrev pub opened : Result DayFile Fault → Opened
+opened (Ok d) = File d
+opened (Err fault) = Refused (number_of fault)
+
 abbrev pub opened_by : List ℕ → Decision → Opened
 opened_by f (Met k i) = Refused k
 opened_by f Unmet = File (counts_of f)
@@ -74,8 +81,8 @@ header_decision l f w = decision_for (looked_at l f (ltb (length f) header_size)
 -- by the three tests
 abbrev pub decided_by_tests : Bool → Bool → Bool → Wanted → Decision
 decided_by_tests short above broken w =
-    or_found (or_found (or_found Unmet 1 (sought w 1 (cond short (At 0) Nothing))) 2 (sought w 2 (cond above (At 0) Nothing))) 3
-    (sought w 3 (cond broken (At 0) Nothing))
+    or_found (or_found (or_found Unmet 1 (sought w 1 (cond short (Some 0) None))) 2 (sought w 2 (cond above (Some 0) None))) 3
+    (sought w 3 (cond broken (Some 0) None))
 
 -- the counts of a header that stands whole and is within the limits, or the number of the check that says otherwise
 unfoldable pub counted_of : Limits → List ℕ → Opened

@@ -6,7 +6,10 @@ use Rattle.dayfile.specs.declared.records.Correction.{Correction}
 use Rattle.dayfile.specs.declared.records.Position.{Position}
 use Rattle.dayfile.specs.declared.records.RawPosition.{RawPosition}
 
--- the sizes of the records, in bytes
+-- the size of a record in bytes, the same for each kind
+abbrev pub record_size : ℕ
+record_size = 12
+
 abbrev pub mark_size : ℕ
 mark_size = 12
 
@@ -35,6 +38,10 @@ position_of r = record { account = u32_at r 0; mark = u32_at r 4; lots = signed 
 -- a position as its bytes have it, the lots in two's complement
 abbrev pub raw_position_of : List ℕ → RawPosition
 raw_position_of r = record { account = u32_at r 0; mark = u32_at r 4; lots = u32_at r 8 }
+
+-- the position of three numbers of 32 bits
+abbrev pub signed_position : RawPosition → Position
+signed_position w = record { account = w.account; mark = w.mark; lots = signed w.lots }
 
 -- the records of a section
 abbrev pub marks_in : List ℕ → List Mark

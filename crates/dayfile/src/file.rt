@@ -1,17 +1,19 @@
 // The layout of a day file, and its header: checks 1, 2 and 3.
 ghost use Rattle.std.specs.Prelude.{◌≡◌, ◌-◌, ◌≤◌, length};
+ghost use Rattle.faults.specs.Faults.{said};
 ghost use Rattle.dayfile.specs.Limits.{file_limits};
 ghost use Rattle.numbers.specs.Bytes.{part};
 ghost use Rattle.dayfile.specs.Layout.{header_size, counts_of, corrections_start, positions_start, length_of};
 ghost use Rattle.dayfile.specs.Layout.{mark_bytes, correction_bytes, position_bytes};
-ghost use Rattle.dayfile.specs.Opening.{within_limits, as_laid_out, opened_of, decided_by_tests, header_decision, counted_of};
+ghost use Rattle.dayfile.specs.Opening.{within_limits, as_laid_out, opened, opened_of, header_decision, counted_of};
 
 use crate::bytes::u32_at;
 use crate::records::{Correction, Mark, Position};
-use numbers::{Decision, Found, Wanted};
+use faults::{Fault, Refusal};
+use numbers::Wanted;
 
 // The counts of a day file's three sections.
-#[derive(Clone, Copy)]
+#[derive(Clone, Copy, Debug, PartialEq, Eq)]
 pub struct DayFile {
     pub marks: u32,
     pub corrections: u32,
@@ -26,6 +28,8 @@ impl DayFile {
     pub const MAX_POSITIONS: usize = 4_096;
 
     pub const HEADER: usize = 24;
+
+    // Offsets, length and sections have a name each: one function of them all would match the section again.
 
     // Where the corrections start, in bytes from the file's start.
     pub fn corrections_start(self) -> usize
@@ -68,29 +72,33 @@ impl DayFile {
     {
         section(file, self.positions_start(), self.length())
     }
+
+    // Whether the counts are within the file's limits.
+    fn within_limits(self) -> bool
+        ensures { result ≡ within_limits file_limits self }
+    {
+        (self.marks as usize <= DayFile::MAX_MARKS)
+            & (self.corrections as usize <= DayFile::MAX_CORRECTIONS)
+            & (self.positions as usize <= DayFile::MAX_POSITIONS)
+    }
+
+    // Whether the offsets and the file's length are those of the layout.
+    fn as_laid_out(self, s: &[u8]) -> bool
+        requires { header_size ≤ length s.now }
+        ensures { result ≡ as_laid_out s.now self }
+    {
+        (u32_at(s, 4) as usize == DayFile::HEADER)
+            & (u32_at(s, 12) as usize == self.corrections_start())
+            & (u32_at(s, 20) as usize == self.positions_start())
+            & (s.len() == self.length())
+    }
 }
 
 // The bytes from one place to another, as far as the file has them.
 fn section(file: &[u8], start: usize, end: usize) -> &[u8]
     ensures { result.now ≡ part start (end - start) file.now }
 {
-    if file.len() < end {
-        if start <= file.len() {
-            return &file[start..];
-        }
-        return &file[..0];
-    }
-    if start <= end {
-        return &file[start..end];
-    }
-    &file[..0]
-}
-
-// The file's counts, or the number of the check that it fails.
-#[derive(Clone, Copy)]
-pub enum Opened {
-    File(DayFile),
-    Refused(u32),
+    file.get(start..end.min(file.len())).unwrap_or(&[])
 }
 
 // The counts of the header.
@@ -105,75 +113,42 @@ fn counts(s: &[u8]) -> DayFile
     }
 }
 
-// Whether the counts are within the file's limits.
-fn within_limits(d: DayFile) -> bool
-    ensures { result ≡ within_limits file_limits d }
-{
-    (d.marks as usize <= DayFile::MAX_MARKS)
-        & (d.corrections as usize <= DayFile::MAX_CORRECTIONS)
-        & (d.positions as usize <= DayFile::MAX_POSITIONS)
-}
-
-// Whether the offsets and the file's length are those of the layout.
-fn as_laid_out(s: &[u8], d: DayFile) -> bool
-    requires { header_size ≤ length s.now }
-    ensures { result ≡ as_laid_out s.now d }
-{
-    (u32_at(s, 4) as usize == DayFile::HEADER)
-        & (u32_at(s, 12) as usize == d.corrections_start())
-        & (u32_at(s, 20) as usize == d.positions_start())
-        & (s.len() == d.length())
-}
-
 // The counts of a header that stands whole, where they are within the limits: checks 1 and 2 alone.
-pub fn counted(s: &[u8]) -> Opened
-    ensures { result ≡ counted_of file_limits s.now }
+pub fn counted(s: &[u8]) -> Result<DayFile, Fault>
+    ensures { opened result ≡ counted_of file_limits s.now }
 {
     if s.len() < DayFile::HEADER {
-        return Opened::Refused(1);
+        return Err(Fault::ShortFile);
     }
     let d = counts(s);
-    if within_limits(d) {
-        Opened::File(d)
+    if d.within_limits() {
+        Ok(d)
     } else {
-        Opened::Refused(2)
+        Err(Fault::AboveLimits)
     }
 }
 
-// Checks 1 to 3: the file's counts, or the number of the first of these checks that it fails.
-pub fn open_file(s: &[u8]) -> Opened
-    ensures { result ≡ opened_of file_limits s.now }
+// Checks 1 to 3: the file's counts, or the first of these checks that it fails.
+pub fn open_file(s: &[u8]) -> Result<DayFile, Fault>
+    ensures { opened result ≡ opened_of file_limits s.now }
 {
-    match counted(s) {
-        Opened::Refused(k) => Opened::Refused(k),
-        Opened::File(d) => {
-            if as_laid_out(s, d) {
-                Opened::File(d)
-            } else {
-                Opened::Refused(3)
-            }
-        }
+    let d = counted(s)?;
+    if d.as_laid_out(s) {
+        Ok(d)
+    } else {
+        Err(Fault::Layout)
     }
 }
 
-// What three tests decide, by those checks that are looked at. There is one file, and its index is 0.
-fn decided_by_tests(short: bool, above: bool, broken: bool, wanted: Wanted) -> Decision
-    ensures { result ≡ decided_by_tests short above broken wanted }
-{
-    let none = Found::Nothing;
-    let d = Decision::Unmet;
-    let d = d.or_found(wanted, 1, none.or_at(short, 0));
-    let d = d.or_found(wanted, 2, none.or_at(above, 0));
-    d.or_found(wanted, 3, none.or_at(broken, 0))
-}
-
-// What checks 1 to 3 decide, those of them that are looked at. Of a file that is shorter than a header its length alone is looked at.
-pub fn decide_header(s: &[u8], wanted: Wanted) -> Decision
-    ensures { result ≡ header_decision file_limits s.now wanted }
+// What checks 1 to 3 say, those of them that are looked at. Of a file that is shorter than a header its length alone is looked at.
+// There is one file, and its index is 0.
+pub fn decide_header(s: &[u8], wanted: Wanted) -> Result<(), Refusal>
+    ensures { said result ≡ header_decision file_limits s.now wanted }
 {
     if s.len() < DayFile::HEADER {
-        return decided_by_tests(true, false, false, wanted);
+        return Fault::ShortFile.refuse(wanted, Some(0));
     }
     let d = counts(s);
-    decided_by_tests(false, !within_limits(d), !as_laid_out(s, d), wanted)
+    Fault::AboveLimits.refuse(wanted, (!d.within_limits()).then_some(0))?;
+    Fault::Layout.refuse(wanted, (!d.as_laid_out(s)).then_some(0))
 }

@@ -1,4 +1,5 @@
 -- What the maker's checks decide, one after the other, and what holds of lists that pass them.
+use Rattle.std.proofs.Common.{Some, None}
 use mathlib.Core.Path.{◌≡◌, refl, sym, ap, ◌∙◌}
 use mathlib.Core.Bool.{Bool, true, false, cond, not, ◌||◌}
 use mathlib.Core.List.{List}
@@ -7,11 +8,8 @@ use native.Mathlib.Omega.{arith}
 use lib.Dec.{ltb, eqb}
 use lib.ListN.{length}
 use borrow.Author.Tests.{eqb-true, eq-eqb, ltb-false, le-ltb, not-false}
-use Rattle.numbers.specs.Order.{pick, or_later}
+use Rattle.numbers.specs.Order.{pick, or_later, Decision, Met, Unmet}
 use Rattle.numbers.specs.Checks.{Checks, only, ◌before◌, decision_of}
-use Rattle.numbers.specs.declared.Found.TheVariants.{At, Nothing}
-use Rattle.numbers.specs.declared.deciding.Decision.{Decision}
-use Rattle.numbers.specs.declared.deciding.Decision.TheVariants.{Met, Unmet}
 use Rattle.numbers.proofs.Searches.{or_none}
 use Rattle.numbers.proofs.Sections.{size_is}
 use Rattle.numbers.proofs.Checks.{decision-before, decision-only, one_decides, one_passes, one_passed, both_unmet}
@@ -27,11 +25,8 @@ use Rattle.checks.proofs.Passed.{few-records}
 use Rattle.checks.proofs.Refusals.{records-within}
 use Rattle.text.specs.Writing.{over}
 use Rattle.making.specs.Conditions.{broken_list, room_check, making_checks}
-use Rattle.making.specs.Making.{said, answer_of, buffer_after}
-use Rattle.making.specs.MakingSteps.{room_plan, plan_by, plan_of}
-use Rattle.making.specs.declared.maker.Made.TheVariants as maker
-use Rattle.making.specs.declared.plans.Plan.{Plan}
-use Rattle.making.specs.declared.plans.Plan.TheVariants.{File, Refused}
+use Rattle.making.specs.Making.{made, refused, answer_of, buffer_after}
+use Rattle.making.specs.MakingSteps.{Plan, File, Refused, room_plan, plan_by, plan_of}
 
 pub number_of : {k n i j : ℕ} → Met k i ≡ Met n j → k ≡ n
 number_of e = cc
@@ -97,10 +92,10 @@ module _ (l : Limits) (ms cs ps : List ℕ) (room : ℕ) where
       decided_after : decision_of after_records ≡ decision_of (making_checks ms cs ps l room)
       decided_after = one_passes (too_many_records l (lists_of ms cs ps)) after_counts few (one_passes (broken_list ms cs ps) after_records whole refl)
 
-      pub planned_records : {d : Decision} {k i : ℕ} → d ≡ decision_of (list_checks l (lists_of ms cs ps)) → d ≡ Met k i → Refused k i ≡ plan_of l ms cs ps room
+      pub planned_records : {k i : ℕ} → Met k i ≡ decision_of (list_checks l (lists_of ms cs ps)) → Refused k i ≡ plan_of l ms cs ps room
       unfolding plan_of
-      planned_records {k = k} {i} p q =
-          let r : decision_of (record_checks (lists_of ms cs ps)) ≡ Met k i = sym (records-within l (lists_of ms cs ps) few) ∙ sym p ∙ q in
+      planned_records {k} {i} p =
+          let r : decision_of (record_checks (lists_of ms cs ps)) ≡ Met k i = sym (p ∙ records-within l (lists_of ms cs ps) few) in
           let first : decision_of after_records ≡ Met k i = decision-before (record_checks (lists_of ms cs ps)) (only (room_check ms cs ps room)) ∙ rw r in
           ap (plan_by (counts_in ms cs ps)) (sym first ∙ decided_after)
 
@@ -113,20 +108,20 @@ module _ (l : Limits) (ms cs ps : List ℕ) (room : ℕ) where
 
       -- 17 is all that is left
       pub decided_room : decision_of (record_checks (lists_of ms cs ps)) ≡ Unmet
-          → decision_of (making_checks ms cs ps l room) ≡ pick (cond (ltb room (length (made_of ms cs ps))) (At 0) Nothing) 17 Unmet
+          → decision_of (making_checks ms cs ps l room) ≡ pick (cond (ltb room (length (made_of ms cs ps))) (Some 0) None) 17 Unmet
       decided_room r =
           sym decided_after ∙ decision-before (record_checks (lists_of ms cs ps)) (only (room_check ms cs ps room)) ∙ rw r (decision-only (room_check ms cs ps room))
 
-by_room : (d : DayFile) (short : Bool) → cond short (Refused 17 0) (File d) ≡ plan_by d (pick (cond short (At 0) Nothing) 17 Unmet)
+by_room : (d : DayFile) (short : Bool) → cond short (Refused 17 0) (File d) ≡ plan_by d (pick (cond short (Some 0) None) 17 Unmet)
 by_room d true = refl
 by_room d false = refl
 
 pub planned_room : (ms cs ps : List ℕ) (room : ℕ) → (too_many_records file_limits (lists_of ms cs ps)).test 0 ≡ false → (broken_list ms cs ps).test 0 ≡ false
-    → {e : Decision} → e ≡ decision_of (list_checks file_limits (lists_of ms cs ps)) → e ≡ Unmet → {d : DayFile} {r : Plan} → d ≡ counts_in ms cs ps → r ≡ room_plan d room
+    → Unmet ≡ decision_of (list_checks file_limits (lists_of ms cs ps)) → {d : DayFile} {r : Plan} → d ≡ counts_in ms cs ps → r ≡ room_plan d room
     → r ≡ plan_of file_limits ms cs ps room
 unfolding plan_of
-planned_room ms cs ps room few whole p q {d} c r =
-    let u : decision_of (record_checks (lists_of ms cs ps)) ≡ Unmet = sym (records-within file_limits (lists_of ms cs ps) few) ∙ sym p ∙ q in
+planned_room ms cs ps room few whole p {d} c r =
+    let u : decision_of (record_checks (lists_of ms cs ps)) ≡ Unmet = sym (p ∙ records-within file_limits (lists_of ms cs ps) few) in
     let n = made-length ms cs ps (counts_in ms cs ps) (whole_lists ms cs ps (few-records (lists_of ms cs ps) few) whole) in
     r ∙ by_room d (ltb room (length_of d)) ∙ rw (c, decided_room file_limits ms cs ps room few whole u, n)
 
@@ -138,9 +133,9 @@ pub record Fitting (ms cs ps : List ℕ) (d : DayFile) (room : ℕ) : Type 0 whe
   pub passed : decision_of (record_checks (lists_of ms cs ps)) ≡ Unmet
   pub fits : length (made_of ms cs ps) ≤ room
 
-room_left : (short : Bool) → pick (cond short (At 0) Nothing) 17 Unmet ≡ Unmet → short ≡ false
+room_left : (short : Bool) → pick (cond short (Some 0) None) 17 Unmet ≡ Unmet → short ≡ false
 room_left false e = refl
-room_left true e = absurd (let z : ◌≡◌ {A = ℕ} 0 1 = cc in omega arith)
+room_left true e = cc
 
 -- no check refuses
 pub none_refuses : (l : Limits) (ms cs ps : List ℕ) (room : ℕ) → decision_of (making_checks ms cs ps l room) ≡ Unmet
@@ -175,12 +170,12 @@ module _ (ms cs ps : List ℕ) (room : ℕ) where
       decided_room file_limits ms cs ps room (few-counted w.counts w.counts-within) (not_broken ms cs ps w) f.passed ∙ rw (le-ltb _ _ f.fits)
 
   file_by : (d : DayFile) (x : Decision) {e : DayFile} → plan_by d x ≡ File e → (x ≡ Unmet) × (d ≡ e)
-  file_by d (Met k i) p = absurd (let z : ◌≡◌ {A = ℕ} 0 1 = cc in omega arith)
+  file_by d (Met k i) p = cc
   file_by d Unmet p = (refl, cc)
 
   refused_by : (d : DayFile) (x : Decision) {k i : ℕ} → plan_by d x ≡ Refused k i → x ≡ Met k i
   refused_by d (Met n j) p = cc
-  refused_by d Unmet p = absurd (let z : ◌≡◌ {A = ℕ} 0 1 = cc in omega arith)
+  refused_by d Unmet p = cc
 
   planned_file : {d : DayFile} → plan_of file_limits ms cs ps room ≡ File d → (decision_of (making_checks ms cs ps file_limits room) ≡ Unmet) × (counts_in ms cs ps ≡ d)
   unfolding plan_of
@@ -192,21 +187,22 @@ module _ (ms cs ps : List ℕ) (room : ℕ) where
 
 -- ---- the plan carried out
 
-module _ (ms cs ps out : List ℕ) {plan : Plan} (q : plan ≡ plan_of file_limits ms cs ps (length out)) where
-  pub whole_here : {d : DayFile} → plan ≡ File d → WholeRecords ms cs ps d × (length_of d ≤ length out)
-  whole_here e =
-      let (u, c) = planned_file ms cs ps (length out) (sym q ∙ e) in
+module _ (ms cs ps out : List ℕ) where
+  pub whole_here : {d : DayFile} → File d ≡ plan_of file_limits ms cs ps (length out) → WholeRecords ms cs ps d × (length_of d ≤ length out)
+  whole_here q =
+      let (u, c) = planned_file ms cs ps (length out) (sym q) in
       let f = fitting ms cs ps (length out) u in
       rw (← c) (f.whole, rw (← made-length ms cs ps (counts_in ms cs ps) f.whole) f.fits)
 
-  pub answer-refused : {k i : ℕ} → plan ≡ Refused k i → (said (maker.Refused k i) ≡ answer_of file_limits ms cs ps (length out)) × (out ≡ buffer_after file_limits ms cs ps out)
+  pub answer-refused : {k i : ℕ} → Refused k i ≡ plan_of file_limits ms cs ps (length out)
+      → (refused k i ≡ answer_of file_limits ms cs ps (length out)) × (out ≡ buffer_after file_limits ms cs ps out)
   unfolding answer_of buffer_after
-  answer-refused e = let m = planned_refused ms cs ps (length out) (sym q ∙ e) in (rw m, rw m)
+  answer-refused q = let m = planned_refused ms cs ps (length out) (sym q) in (rw m, rw m)
 
-  pub answer-made : {d : DayFile} {n : ℕ} {after : List ℕ} → plan ≡ File d → n ≡ length_of d → after ≡ over (made_of ms cs ps) out
-      → (said (maker.File n) ≡ answer_of file_limits ms cs ps (length out)) × (after ≡ buffer_after file_limits ms cs ps out)
+  pub answer-made : {d : DayFile} {n : ℕ} {after : List ℕ} → File d ≡ plan_of file_limits ms cs ps (length out) → n ≡ length_of d → after ≡ over (made_of ms cs ps) out
+      → (made n ≡ answer_of file_limits ms cs ps (length out)) × (after ≡ buffer_after file_limits ms cs ps out)
   unfolding answer_of buffer_after
-  answer-made {d} e h w =
-      let (u, c) = planned_file ms cs ps (length out) (sym q ∙ e) in
-      let n = made-length ms cs ps d (whole_here e).0 in
+  answer-made {d} q h w =
+      let (u, c) = planned_file ms cs ps (length out) (sym q) in
+      let n = made-length ms cs ps d (whole_here q).0 in
       (rw (u, n, h), rw u w)

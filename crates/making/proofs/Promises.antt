@@ -17,7 +17,7 @@ use Rattle.dayfile.proofs.Made.{made-is-bytes}
 use Rattle.numbers.proofs.Sections.{size_is}
 use Rattle.checks.specs.Corrections.{resent_of}
 use Rattle.checks.specs.Judging.{judged_of}
-use Rattle.checks.specs.declared.judging.Judged.TheVariants.{Passed}
+use Rattle.checks.specs.Judging.{Passed}
 use Rattle.making.specs.Conditions.{making_checks, NotMade, CanBeMade}
 use Rattle.making.specs.Making.{DayFileOf, Answer, made, refused, answer_of, buffer_after}
 use Rattle.checks.proofs.Refusals.{judged_passes}

@@ -9,10 +9,8 @@ use lib.Dec.{eqb}
 use lib.ListN.{length, take, drop, length-append, length-drop}
 use lib.Seq.{take_at, drop_at}
 use Rattle.numbers.specs.Bytes.{Bytes}
-use Rattle.numbers.specs.Order.{or_later}
+use Rattle.numbers.specs.Order.{or_later, Decision, Met, Unmet}
 use Rattle.numbers.specs.Checks.{only, ◌before◌, decision_of}
-use Rattle.numbers.specs.declared.deciding.Decision.{Decision}
-use Rattle.numbers.specs.declared.deciding.Decision.TheVariants.{Met, Unmet}
 use Rattle.numbers.proofs.Truth.{Tells, not_both, tells_as, tells_or, tells_not, tells_lt, tells_divides, or_three, or_three_back}
 use Rattle.numbers.proofs.Checks.{Agree, agree_only, agree_before, refuses_exactly, passes_exactly, number_passes}
 use Rattle.numbers.proofs.Sections.{size_is}
@@ -23,7 +21,7 @@ use Rattle.dayfile.specs.Opening.{opened_of}
 use Rattle.dayfile.specs.Making.{counts_in, made_of}
 use Rattle.dayfile.specs.WithinLimits.{WholeRecords}
 use Rattle.dayfile.specs.declared.file.DayFile.{DayFile}
-use Rattle.dayfile.specs.declared.file.Opened.TheVariants as opened
+use Rattle.dayfile.specs.Opening as opened
 use Rattle.dayfile.proofs.Made.{made-counts, made-length, made-marks, made-corrections, made-positions, made-marks-at, made-corrections-at, made-positions-at, made_opens, made_again, sections_whole}
 use Rattle.checks.specs.Judging.{record_checks, file_checks, too_many_records}
 use Rattle.checks.proofs.Agreement.{records_agree, many_records}
@@ -57,10 +55,10 @@ module _ (l : Limits) (ms cs ps : List ℕ) (room : ℕ) where
 
   refused_by : (file : List ℕ) (d : Decision) {k i : ℕ} → answer_by file d ≡ refused k i → d ≡ Met k i
   refused_by file (Met k i) e = cc
-  refused_by file Unmet e = absurd (let z : ◌≡◌ {A = ℕ} 0 1 = cc in omega arith)
+  refused_by file Unmet e = cc
 
   made_by_decision : (file : List ℕ) (d : Decision) {n : ℕ} → answer_by file d ≡ made n → (d ≡ Unmet) × (length file ≡ n)
-  made_by_decision file (Met k i) e = absurd (let z : ◌≡◌ {A = ℕ} 0 1 = cc in omega arith)
+  made_by_decision file (Met k i) e = cc
   made_by_decision file Unmet e = (refl, cc)
 
   -- lists are refused exactly by the first check whose condition holds

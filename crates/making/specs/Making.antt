@@ -1,17 +1,16 @@
 -- What a made file is, what the maker answers of three lists, lent as the bytes of their records, and what the lent buffer then holds.
-use Rattle.std.specs.Prelude.{◌≡◌, List, ℕ, ◌+◌, ◌/◌, length}
+use Rattle.std.specs.Prelude.{Result, Ok, Err, ◌≡◌, List, ℕ, ◌+◌, ◌/◌, length}
 use Rattle.numbers.specs.Bytes.{u32_at, part}
 use Rattle.numbers.specs.Checks.{decision_of}
-use Rattle.numbers.specs.declared.deciding.Decision.{Decision}
-use Rattle.numbers.specs.declared.deciding.Decision.TheVariants.{Met, Unmet}
+use Rattle.faults.specs.Faults.{number_of}
+use Rattle.faults.specs.declared.refusal.Refusal.{Refusal}
 use Rattle.dayfile.specs.Limits.{Limits}
 use Rattle.dayfile.specs.Records.{mark_size, correction_size, position_size}
 use Rattle.dayfile.specs.Layout.{header_size}
 use Rattle.dayfile.specs.Making.{made_of}
 use Rattle.text.specs.Writing.{over}
 use Rattle.making.specs.Conditions.{making_checks}
-use Rattle.making.specs.declared.maker.Made.{Made}
-use Rattle.making.specs.declared.maker.Made.TheVariants.{File, Refused}
+use Rattle.numbers.specs.Order.{Decision, Met, Unmet}
 
 -- a file with its three lists, by its bytes alone: the counts and offsets of its header, each list from its own offset on, and its end
 pub record DayFileOf (f ms cs ps : List ℕ) : Type 0 where
@@ -32,9 +31,9 @@ pub data Answer : Type 0 where
   refused : ℕ → ℕ → Answer
 
 -- what an answer of the code says
-abbrev pub said : Made → Answer
-said (File n) = made n
-said (Refused k i) = refused k i
+abbrev pub said : Result ℕ Refusal → Answer
+said (Ok n) = made n
+said (Err r) = refused (number_of r.fault) r.index
 
 -- by what the checks decide, of a file
 abbrev pub answer_by : List ℕ → Decision → Answer

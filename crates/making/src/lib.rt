@@ -5,4 +5,4 @@ mod maker;
 mod plans;
 mod writing;
 
-pub use maker::{Made, make};
+pub use maker::make;

@@ -5,72 +5,65 @@ ghost use Rattle.dayfile.specs.Records.{lists_of};
 ghost use Rattle.dayfile.specs.Making.{counts_in};
 ghost use Rattle.dayfile.specs.WithinLimits.{ListsWithinLimits};
 ghost use Rattle.making.specs.Conditions.{broken_list};
-ghost use Rattle.making.specs.MakingSteps.{room_plan, plan_of};
+ghost use Rattle.making.specs.MakingSteps.{planned, room_plan, plan_of};
 
 use checks::{check_records, too_many};
 use dayfile::{Correction, DayFile, Mark, Position, correction_count, mark_count, position_count};
-use numbers::Decision;
+use faults::{Fault, Refusal};
 
-// The counts of the file to make; or the number of the check that refuses it, and the index of a record.
+// The three lists of a file to make, lent as the bytes of their records.
 #[derive(Clone, Copy)]
-pub enum Plan {
-    File(DayFile),
-    Refused { number: u32, index: usize },
+pub(crate) struct Lists<'a> {
+    pub(crate) marks: &'a [u8],
+    pub(crate) corrections: &'a [u8],
+    pub(crate) positions: &'a [u8],
 }
 
-// 3: a list is not whole records.
-fn broken(marks: &[u8], corrections: &[u8], positions: &[u8]) -> bool
-    ensures { result ≡ (broken_list marks.now corrections.now positions.now).test 0 }
-{
-    (marks.len() % Mark::SIZE != 0)
-        | (corrections.len() % Correction::SIZE != 0)
-        | (positions.len() % Position::SIZE != 0)
-}
+impl Lists<'_> {
+    // 3: a list is not whole records.
+    pub(crate) fn broken(self) -> bool
+        ensures { result
+            ≡ (broken_list self.entry.marks.now self.entry.corrections.now self.entry.positions.now).test 0 }
+    {
+        (self.marks.len() % Mark::SIZE != 0)
+            | (self.corrections.len() % Correction::SIZE != 0)
+            | (self.positions.len() % Position::SIZE != 0)
+    }
 
-// The counts of three lists.
-fn counts(marks: &[u8], corrections: &[u8], positions: &[u8]) -> DayFile
-    requires { ListsWithinLimits (lists_of marks.now corrections.now positions.now) }
-    ensures { result ≡ counts_in marks.now corrections.now positions.now }
-{
-    DayFile {
-        marks: mark_count(marks) as u32,
-        corrections: correction_count(corrections) as u32,
-        positions: position_count(positions) as u32,
+    // How many records there are in each. (`as`: lists within the limits are proved to fit.)
+    pub(crate) fn counts(self) -> DayFile
+        requires { ListsWithinLimits (lists_of self.marks.now self.corrections.now self.positions.now) }
+        ensures { result ≡ counts_in self.entry.marks.now self.entry.corrections.now self.entry.positions.now }
+    {
+        DayFile {
+            marks: mark_count(self.marks) as u32,
+            corrections: correction_count(self.corrections) as u32,
+            positions: position_count(self.positions) as u32,
+        }
     }
 }
 
 // 17: the buffer is shorter than the file.
-fn with_room(d: DayFile, room: usize) -> Plan
-    ensures { result ≡ room_plan d room }
+fn with_room(d: DayFile, room: usize) -> Result<DayFile, Refusal>
+    ensures { planned result ≡ room_plan d room }
 {
     if room < d.length() {
-        return Plan::Refused {
-            number: 17,
-            index: 0,
-        };
+        return Err(Refusal::from(Fault::Room));
     }
-    Plan::File(d)
+    Ok(d)
 }
 
-// Checks 2 and 3, then 4 to 13 and 16, then 17, for a buffer of so many bytes.
-pub(crate) fn plan_of(marks: &[u8], corrections: &[u8], positions: &[u8], room: usize) -> Plan
-    ensures { result
-        ≡ plan_of file_limits marks.now corrections.now positions.now room }
+// Checks 2 and 3, then 4 to 13 and 16, then 17, for a buffer of so many bytes: the counts of the file to make.
+pub(crate) fn plan_of(lists: Lists<'_>, room: usize) -> Result<DayFile, Refusal>
+    ensures { planned result
+        ≡ plan_of file_limits lists.entry.marks.now lists.entry.corrections.now lists.entry.positions.now room }
 {
-    if too_many(marks, corrections, positions) {
-        return Plan::Refused {
-            number: 2,
-            index: 0,
-        };
+    if too_many(lists.marks, lists.corrections, lists.positions) {
+        return Err(Refusal::from(Fault::AboveLimits));
     }
-    if broken(marks, corrections, positions) {
-        return Plan::Refused {
-            number: 3,
-            index: 0,
-        };
+    if lists.broken() {
+        return Err(Refusal::from(Fault::Layout));
     }
-    match check_records(marks, corrections, positions) {
-        Decision::Met { number, index } => Plan::Refused { number, index },
-        Decision::Unmet => with_room(counts(marks, corrections, positions), room),
-    }
+    check_records(lists.marks, lists.corrections, lists.positions)?;
+    with_room(lists.counts(), room)
 }

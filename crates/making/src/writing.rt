@@ -6,6 +6,7 @@ ghost use Rattle.dayfile.specs.Making.{entry_bytes, header_of, made_of};
 ghost use Rattle.dayfile.specs.WithinLimits.{CountsWithinLimits, WholeRecords};
 ghost use Rattle.text.specs.Writing.{Wrote};
 
+use crate::plans::Lists;
 use dayfile::DayFile;
 use text::write_text;
 
@@ -14,10 +15,7 @@ fn write_u32(n: u32, out: &mut [u8])
     requires { 4 ≤ length out.old }
     ensures { Wrote (u32_bytes n) 4 out.old out.new }
 {
-    out[0] = (n % 256) as u8;
-    out[1] = (n / 256 % 256) as u8;
-    out[2] = (n / 256 / 256 % 256) as u8;
-    out[3] = (n / 256 / 256 / 256 % 256) as u8;
+    out[..4].copy_from_slice(&n.to_le_bytes());
 }
 
 // A section's count and offset.
@@ -47,22 +45,17 @@ fn write_section(records: &[u8], out: &mut [u8])
 }
 
 // The file of whole records with these counts, into a buffer that has room for it.
-pub(crate) fn write_file(
-    marks: &[u8],
-    corrections: &[u8],
-    positions: &[u8],
-    d: DayFile,
-    out: &mut [u8],
-)
-    requires { WholeRecords marks.now corrections.now positions.now d × (length_of d ≤ length out.old) }
-    ensures { Wrote (made_of marks.now corrections.now positions.now) (length_of d)
+pub(crate) fn write_file(lists: Lists<'_>, d: DayFile, out: &mut [u8])
+    requires { WholeRecords lists.marks.now lists.corrections.now lists.positions.now d
+        × (length_of d ≤ length out.old) }
+    ensures { Wrote (made_of lists.entry.marks.now lists.entry.corrections.now lists.entry.positions.now) (length_of d)
         out.old out.new }
 {
     write_header(d, out);
     let marks_start = DayFile::HEADER;
     let corrections_start = d.corrections_start();
     let positions_start = d.positions_start();
-    write_section(marks, &mut out[marks_start..]);
-    write_section(corrections, &mut out[corrections_start..]);
-    write_section(positions, &mut out[positions_start..]);
+    write_section(lists.marks, &mut out[marks_start..]);
+    write_section(lists.corrections, &mut out[corrections_start..]);
+    write_section(lists.positions, &mut out[positions_start..]);
 }

@@ -1,15 +1,11 @@
 -- The laws of checks in their order: what they decide is what their conditions in words say, and how parts of an order go together.
-use Rattle.std.proofs.Common.{◌≡◌, ℕ, ◌<◌, ◌≤◌, Bool, true, false, cond, ◌&&◌, leb, ◌↔◌, List, [], ◌∷◌, ◌++◌, map, sym, refl, ap, ◌∙◌, inl, inr, le_trans, arith, leb-true}
+use Rattle.std.proofs.Common.{◌≡◌, ℕ, ◌<◌, ◌≤◌, Bool, true, false, cond, ◌&&◌, leb, ◌↔◌, List, [], ◌∷◌, ◌++◌, map, sym, refl, ap, ◌∙◌, inl, inr, le_trans, arith, leb-true, Option, Some, None}
 use mathlib.Core.List.{foldl, Memᴰ}
 use Rattle.numbers.specs.Folds.{first}
-use Rattle.numbers.specs.Order.{pick, or_later, or_found, decision, sought}
+use Rattle.numbers.specs.Order.{pick, or_later, or_found, decision, sought, Decision, Met, Unmet}
 use Rattle.numbers.specs.Checks.{Check, Checks, only, ◌before◌, number_of, HoldsAt, Refuses, Passes, finding_of, decision_of, decision_for}
-use Rattle.numbers.specs.declared.Found.{Found}
-use Rattle.numbers.specs.declared.Found.TheVariants.{At, Nothing}
-use Rattle.numbers.specs.declared.deciding.Decision.{Decision}
-use Rattle.numbers.specs.declared.deciding.Decision.TheVariants.{Met, Unmet}
-use Rattle.numbers.specs.declared.deciding.Wanted.{Wanted}
-use Rattle.numbers.specs.declared.deciding.Wanted.TheVariants.{All}
+use Rattle.numbers.specs.declared.wanted.Wanted.{Wanted}
+use Rattle.numbers.specs.declared.wanted.Wanted.TheVariants.{All}
 use Rattle.numbers.proofs.Truth.{Tells, and_left, and_right}
 use Rattle.numbers.proofs.Searches.{first_clear}
 use Rattle.numbers.proofs.Order.{Finds, first_finds, met_exactly, clear_exactly, all_clear, none_of, nothing_sought}
@@ -44,15 +40,15 @@ agree_only c t n = t
 -- ---- checks that pass
 
 module _ (cs : Checks) where
-  clear : decision_of cs ≡ Unmet → (c : cs.Name) → Memᴰ c cs.order → finding_of cs c ≡ Nothing
+  clear : decision_of cs ≡ Unmet → (c : cs.Name) → Memᴰ c cs.order → finding_of cs c ≡ None
   unfolding decision_of
   clear p c m = none_of (number_of cs) (finding_of cs) cs.order p c m
 
-  pub unmet : ((c : cs.Name) → Memᴰ c cs.order → finding_of cs c ≡ Nothing) → decision_of cs ≡ Unmet
+  pub unmet : ((c : cs.Name) → Memᴰ c cs.order → finding_of cs c ≡ None) → decision_of cs ≡ Unmet
   unfolding decision_of
   unmet h = all_clear (number_of cs) (finding_of cs) cs.order h
 
-  pub unmet_for : (w : Wanted) → ((c : cs.Name) → Memᴰ c cs.order → finding_of cs c ≡ Nothing) → decision_for cs w ≡ Unmet
+  pub unmet_for : (w : Wanted) → ((c : cs.Name) → Memᴰ c cs.order → finding_of cs c ≡ None) → decision_for cs w ≡ Unmet
   unfolding decision_for
   unmet_for w h = all_clear (number_of cs) (λ c. sought w (number_of cs c) (finding_of cs c)) cs.order (λ c m. rw (h c m) (nothing_sought w (number_of cs c)))
 
@@ -62,15 +58,15 @@ module _ (cs : Checks) where
 
 -- ---- one part of an order after the other
 
-pick_then : (o : Found) (k : ℕ) (d e : Decision) → pick o k (or_later d e) ≡ or_later (pick o k d) e
-pick_then (At i) k d e = refl
-pick_then Nothing k d e = refl
+pick_then : (o : Option ℕ) (k : ℕ) (d e : Decision) → pick o k (or_later d e) ≡ or_later (pick o k d) e
+pick_then (Some i) k d e = refl
+pick_then None k d e = refl
 
 pub both_unmet : (d e : Decision) → or_later d e ≡ Unmet → (d ≡ Unmet) × (e ≡ Unmet)
 both_unmet Unmet e p = (refl, p)
 both_unmet (Met k i) e p = absurd (let z : ◌≡◌ {A = ℕ} 0 1 = cc in omega arith)
 
-module _ {R : Type 0} (number : R → ℕ) (finding : R → Found) where
+module _ {R : Type 0} (number : R → ℕ) (finding : R → Option ℕ) where
   decision-append : (xs ys : List R) → decision number finding (xs ++ ys) ≡ or_later (decision number finding xs) (decision number finding ys)
   decision-append [] ys = refl
   decision-append (x ∷ xs) ys =
@@ -80,9 +76,9 @@ module _ {R : Type 0} (number : R → ℕ) (finding : R → Found) where
   decision_steps (Met k i) x xs = refl
   decision_steps Unmet x xs = by_found (finding x)
     where
-      by_found : (o : Found) → pick o (number x) (decision number finding xs) ≡ or_later (pick o (number x) Unmet) (decision number finding xs)
-      by_found (At i) = refl
-      by_found Nothing = refl
+      by_found : (o : Option ℕ) → pick o (number x) (decision number finding xs) ≡ or_later (pick o (number x) Unmet) (decision number finding xs)
+      by_found (Some i) = refl
+      by_found None = refl
 
   decision-map : {S : Type 0} (f : S → R) (xs : List S) → decision number finding (map f xs) ≡ decision (λ x. number (f x)) (λ x. finding (f x)) xs
   decision-map f [] = refl
@@ -93,7 +89,7 @@ and_none : (d : Decision) → d ≡ or_later d Unmet
 and_none (Met k i) = refl
 and_none Unmet = refl
 
-by_steps : {R : Type 0} (number : R → ℕ) (finding : R → Found) (d : Decision) (xs : List R)
+by_steps : {R : Type 0} (number : R → ℕ) (finding : R → Option ℕ) (d : Decision) (xs : List R)
     → foldl (λ d x. or_found d (number x) (finding x)) d xs ≡ or_later d (decision number finding xs)
 by_steps number finding d [] = and_none d
 by_steps number finding d (x ∷ xs) = by_steps number finding (or_found d (number x) (finding x)) xs ∙ sym (decision_steps number finding d x xs)
@@ -108,7 +104,7 @@ unfolding decision_for decision_of
 decision_all cs = refl
 
 -- one check by itself
-pub decision-only : (c : Check) → decision_of (only c) ≡ pick (cond (c.test 0) (At 0) Nothing) c.number Unmet
+pub decision-only : (c : Check) → decision_of (only c) ≡ pick (cond (c.test 0) (Some 0) None) c.number Unmet
 unfolding decision_of first
 decision-only c = refl
 
@@ -138,7 +134,7 @@ pub decision_for-before : (p q : Checks) (w : Wanted) → decision_for (p before
 unfolding decision_for
 decision_for-before p q w =
     let number = number_of (p before q) in
-    let finding : (p before q).Name → Found = λ c. sought w (number_of (p before q) c) (finding_of (p before q) c) in
+    let finding : (p before q).Name → Option ℕ = λ c. sought w (number_of (p before q) c) (finding_of (p before q) c) in
     decision-append number finding (map inl p.order) (map inr q.order)
     ∙ ap (λ d. or_later d (decision number finding (map inr q.order))) (decision-map number finding inl p.order)
     ∙ ap (or_later (decision_for p w)) (decision-map number finding inr q.order)

@@ -1,11 +1,9 @@
 -- Checks over records, in their order. Each has a number, says in words what is wrong with the record with index i, and has a test for it.
-use Rattle.std.specs.Prelude.{ℕ, ◌<◌, Bool, ◌⊎◌, List, [], ◌∷◌, ◌++◌, map}
+use Rattle.std.specs.Prelude.{ℕ, ◌<◌, Bool, ◌⊎◌, List, [], ◌∷◌, ◌++◌, map, Option}
 use Rattle.std.proofs.Common.{inl, inr, ⊎_elim}
 use Rattle.numbers.specs.Folds.{first}
-use Rattle.numbers.specs.Order.{Decides, Clear, FindsAt, FindsNone, decision, sought, found}
-use Rattle.numbers.specs.declared.Found.{Found}
-use Rattle.numbers.specs.declared.deciding.Decision.{Decision}
-use Rattle.numbers.specs.declared.deciding.Wanted.{Wanted}
+use Rattle.numbers.specs.Order.{Decides, Clear, FindsAt, FindsNone, decision, sought, found, Decision}
+use Rattle.numbers.specs.declared.wanted.Wanted.{Wanted}
 
 pub record Check : Type 1 where
   pub number : ℕ
@@ -60,7 +58,7 @@ module _ (cs : Checks) where
   FindsNothing k = FindsNone number_of HoldsAt cs.order k
 
   -- the first record that fails a check
-  abbrev pub finding_of : cs.Name → Found
+  abbrev pub finding_of : cs.Name → Option ℕ
   finding_of c = first (cs.check c).test (cs.size c)
 
   -- the first check that finds a record decides
@@ -72,5 +70,5 @@ module _ (cs : Checks) where
   decision_for w = decision number_of (λ c. sought w (number_of c) (finding_of c)) cs.order
 
   -- what check k finds by itself
-  unfoldable pub finding_by : ℕ → Found
+  unfoldable pub finding_by : ℕ → Option ℕ
   finding_by k = found number_of finding_of k cs.order

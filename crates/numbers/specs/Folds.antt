@@ -1,22 +1,15 @@
 -- Searches, counts and sums over the indices below n, and lists filled by index.
-use Rattle.std.specs.Prelude.{◌≡◌, ℕ, zero, suc, ◌+◌, ◌<◌, Bool, true, false, cond, ◌||◌, List, [], ◌∷◌, ◌++◌, drop, ℤ, pos, ◌+ℤ◌, slice_index_or}
-use Rattle.numbers.specs.declared.Found.{Found}
-use Rattle.numbers.specs.declared.Found.TheVariants.{At, Nothing}
+use Rattle.std.specs.Prelude.{◌≡◌, ℕ, zero, suc, ◌+◌, ◌<◌, Bool, true, false, cond, ◌||◌, List, [], ◌∷◌, ◌++◌, drop, ℤ, pos, ◌+ℤ◌, slice_index_or, Option, Some, None}
 
 -- what was found first
-abbrev pub or_else : Found → Found → Found
-or_else (At i) o = At i
-or_else Nothing o = o
+abbrev pub or_else : Option ℕ → Option ℕ → Option ℕ
+or_else (Some i) o = Some i
+or_else None o = o
 
 -- the first index below n that passes a test
-unfoldable pub first : (ℕ → Bool) → ℕ → Found
-first t zero = Nothing
-first t (suc n) = or_else (first t n) (cond (t n) (At n) Nothing)
-
--- something was found
-abbrev pub is_some : Found → Bool
-is_some (At i) = true
-is_some Nothing = false
+unfoldable pub first : (ℕ → Bool) → ℕ → Option ℕ
+first t zero = None
+first t (suc n) = or_else (first t n) (cond (t n) (Some n) None)
 
 -- one more than the last index below n that passes a test, 0 where none does
 unfoldable pub last : (ℕ → Bool) → ℕ → ℕ

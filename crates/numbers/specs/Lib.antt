@@ -5,5 +5,6 @@ pub mod Fractions
 pub mod Integers
 pub mod Bytes
 pub mod Folds
+pub mod Searches
 pub mod Order
 pub mod Checks

@@ -1,8 +1,7 @@
 -- Three records of twelve bytes: the second agrees with the first in four bytes, the third in eight.
-use Rattle.std.proofs.Common.{◌≡◌, ℕ, List, [], ◌∷◌, refl}
+use Rattle.std.proofs.Common.{◌≡◌, ℕ, List, [], ◌∷◌, refl, Some, None}
 use Rattle.numbers.specs.Bytes.{u32_at, records_of}
 use Rattle.numbers.specs.Folds.{first, last, some, repeating}
-use Rattle.numbers.specs.declared.Found.TheVariants.{At, Nothing}
 use Rattle.pairs.specs.Keys.{key_at, same_key_in, earlier_in, looked_at}
 use Rattle.pairs.specs.declared.keys.Key.TheVariants.{Four, Eight}
 
@@ -17,9 +16,9 @@ unfolding key_at three u32_at records_of
 keys_are = (refl, refl, refl)
 
 -- the first that repeats an earlier key, by four bytes, by eight, and by eight of the first two records; and the last earlier one of the third
-pub repeats_are : (first (repeating (same_key_in Four 12 three)) (looked_at Four 12 three) ≡ At 1)
-    × (first (repeating (same_key_in Eight 12 three)) (looked_at Eight 12 three) ≡ At 2)
-    × (first (repeating (same_key_in Eight 12 three)) 2 ≡ Nothing)
+pub repeats_are : (first (repeating (same_key_in Four 12 three)) (looked_at Four 12 three) ≡ Some 1)
+    × (first (repeating (same_key_in Eight 12 three)) (looked_at Eight 12 three) ≡ Some 2)
+    × (first (repeating (same_key_in Eight 12 three)) 2 ≡ None)
     × (earlier_in Four 12 three 2 ≡ 2) × (earlier_in Eight 12 three 2 ≡ 1)
 unfolding key_at looked_at three u32_at records_of first last some
 repeats_are = (refl, refl, refl, refl, refl)

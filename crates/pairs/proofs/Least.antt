@@ -1,5 +1,7 @@
 -- The smaller of two numbers.
-use Rattle.std.proofs.Common.{◌≡◌, ℕ, ◌≤◌, Bool, true, false, cond, leb, refl, arith, leb-false, leb-true}
+use Rattle.std.proofs.Common.{◌≡◌, ℕ, ◌≤◌, Bool, true, false, cond, leb, min, ⊎_elim, ◌∙◌, refl, arith, leb-false, leb-true}
+use Rattle.std.proofs.Math.Nat.{le_of_lt, min-eq_left, min-eq_right}
+use Rattle.std.proofs.lemmas.Bool.{cases_lt}
 use Rattle.pairs.specs.Keys.{least}
 
 module _ (m n : ℕ) where
@@ -30,3 +32,7 @@ module _ (m n : ℕ) where
       go : (b : Bool) → leb m n ≡ b → cond b m n ≤ n
       go true e = let k = leb-true m n e in omega arith
       go false e = omega arith
+
+  -- it is what the library's method answers
+  pub min-least : min m n ≡ least m n
+  min-least = ⊎_elim (λ h. min-eq_left (le_of_lt h) ∙ least_first (le_of_lt h)) (λ h. min-eq_right h ∙ least-second h) (cases_lt m n)

@@ -1,5 +1,6 @@
 -- Records that are looked at have keys, and places for a tree of them.
-use Rattle.std.proofs.Common.{◌≡◌, ℕ, ◌+◌, ◌*◌, ◌/◌, ◌<◌, ◌≤◌, Bool, true, false, cond, ltb, List, length, replicate, refl, le_trans, mul-le-mul_left, arith, ltb-false}
+use Rattle.std.proofs.Common.{◌≡◌, ℕ, ◌+◌, ◌*◌, ◌/◌, ◌<◌, ◌≤◌, Bool, true, false, cond, ltb, List, length, min, replicate, refl, le_trans, mul-le-mul_left, arith, ltb-false}
+use Rattle.std.proofs.Math.Nat.{min-le_left}
 use native.Mathlib.Nat.{mul-div-le}
 use lib.ListN.{length-replicate}
 use Rattle.numbers.proofs.Sections.{records-count}
@@ -33,20 +34,13 @@ module _ (k : Key) (size : ℕ) (s : List ℕ) where
           }
 
   -- and so have as many of them as there are places for
-  pub looked-least : {m r : ℕ} → r ≡ least (looked_at k size s) m → Keyed k size s r × (r ≤ m)
-  looked-least {m} e = (looked-keyed _ (rw e (least-below-first (looked_at k size s) m)), rw e (least-below-second (looked_at k size s) m))
+  pub looked-few : {n r : ℕ} (m : ℕ) → n ≡ looked_at k size s → r ≡ min n m → Keyed k size s r
+  looked-few {n} {r} m p e = looked-keyed r (omega (arith, p, e, min-le_left n m))
 
 -- room for one record after the other
-pub room_for : {k : Key} {size : ℕ} {s : List ℕ} {roots places n : ℕ} (i : ℕ) → i < n → Room k size s roots places n → Room k size s roots places (i + 1)
-room_for i h r =
-    record {
-      keyed = record { few = omega (arith, r.keyed.few); whole = omega (arith, r.keyed.whole); wide = λ p. r.keyed.wide (omega arith) };
-      rooted = r.rooted;
-      limited = r.limited;
-      room = omega (arith, r.room);
-    }
+pub room_for : {roots places n : ℕ} (i : ℕ) → i < n → Room roots places n → Room roots places (i + 1)
+room_for i h r = record { rooted = r.rooted; limited = r.limited; room = omega (arith, r.room) }
 
 -- room in places that are all empty
-pub room_in : {k : Key} {size : ℕ} {s : List ℕ} {n : ℕ} (roots places : ℕ) → Keyed k size s n → 0 < roots → roots ≤ 4 * most → roots + 2 * n ≤ places
-    → Room k size s roots (length {A = ℕ} (replicate places 0)) n
-room_in roots places h r m l = let z : ℕ = 0 in record { keyed = h; rooted = r; limited = m; room = rw (length-replicate places z) l }
+pub room_in : {n : ℕ} (roots places : ℕ) → 0 < roots → roots ≤ 4 * most → roots + 2 * n ≤ places → Room roots (length {A = ℕ} (replicate places 0)) n
+room_in roots places rooted limited room = let z : ℕ = 0 in record { rooted = rooted; limited = limited; room = rw (length-replicate places z) room }

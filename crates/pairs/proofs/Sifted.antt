@@ -1,14 +1,12 @@
 -- A list that is being sifted. Each of the first t listed records stays at a place of its key or is left; one that is left has found
 -- other keys at both places. So where two of them have one key both are left.
-use Rattle.std.proofs.Common.{◌≡◌, ℕ, zero, suc, ◌+◌, ◌/◌, ◌<◌, ◌≤◌, Bool, true, false, cond, eqb, leb, ◌⊎◌, List, length, get_or, set, sym, refl, ap, ◌∙◌, inl, inr, ⊎_elim, le_trans, eq-or-lt_of_le, add-one, arith, get_or-set_other, get_or-set_same, ne_eqb}
+use Rattle.std.proofs.Common.{◌≡◌, ℕ, zero, suc, ◌+◌, ◌<◌, ◌≤◌, Bool, true, false, cond, eqb, leb, ◌⊎◌, List, length, get_or, set, sym, refl, ap, ◌∙◌, inl, inr, ⊎_elim, le_trans, eq-or-lt_of_le, add-one, arith, get_or-set_other, get_or-set_same, ne_eqb}
 use mathlib.Core.Bool.{false≢true}
 use native.Mathlib.Decide.{dec_lt}
 use lib.Seq.{set-get_or}
 use Rattle.pairs.specs.Keys.{least}
-use Rattle.pairs.specs.Walks.{Keyed}
 use Rattle.pairs.specs.Indices.{at, Hit, Repeats, FirstOf, Rising}
-use Rattle.pairs.specs.Sifting.{Held, Holds, Another, kept, more, First, Second, Sifts}
-use Rattle.pairs.specs.declared.keys.Key.{Key}
+use Rattle.pairs.specs.Sifting.{Holds, Another, kept, more, First, Second, Sifts, listed}
 use Rattle.pairs.proofs.Least.{least-below-first, least-below-second}
 use Rattle.pairs.proofs.Spots.{another_set}
 use Rattle.pairs.proofs.Trees.{after-set}
@@ -157,9 +155,6 @@ module _ {key : ℕ → ℕ} {spot : Bool → ℕ → ℕ} {before : ℕ → ℕ
       within zero p = omega arith
       within (suc a) p = let b = s.held e a p in let below = r.below b.place (omega (arith, b.below)) in omega (arith, b.is)
 
-  pub held_of : {n m size : ℕ} {k : Key} {bytes : List ℕ} → Keyed k size bytes n → Rising n m before → t < m → Held (length bytes / size) places
-  held_of w r h e = le_trans (held_few r h e) w.whole
-
   -- an entry after those that are left may be anything
   scribbled : (v : ℕ) → left < t → Sifting key spot before places (set list left v) t left
   scribbled v h =
@@ -292,6 +287,11 @@ module _ {key : ℕ → ℕ} {spot : Bool → ℕ → ℕ} {before : ℕ → ℕ
 -- the list's entries from t on are as they were
 abbrev pub Ahead : (ℕ → ℕ) → List ℕ → ℕ → Type 0
 Ahead before list t = (u : ℕ) → t ≤ u → at list u ≡ before u
+
+-- so is the record at t
+pub listed-ahead : (b : Bool) (list before : List ℕ) (t : ℕ) → Ahead (at before) list t → listed b list t ≡ listed b before t
+listed-ahead true list before t w = w t (omega arith)
+listed-ahead false list before t w = refl
 
 pub ahead : {key before : ℕ → ℕ} {a b t left i left' : ℕ} {places list places' list' : List ℕ} → left ≤ t → Ahead before list t
     → First a places list left i places' list' left' ⊎ Second key a b places list left i places' list' left' → Ahead before list' (t + 1)

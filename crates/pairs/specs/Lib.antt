@@ -1,4 +1,5 @@
 pub mod Keys
+pub mod Records
 pub mod Trees
 pub mod Walks
 pub mod Indices

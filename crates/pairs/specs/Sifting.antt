@@ -1,15 +1,12 @@
 -- Sifting a list. No statement of what the code answers rests on this.
-use Rattle.std.specs.Prelude.{◌≡◌, ℕ, suc, ◌+◌, ◌*◌, ◌/◌, ◌%◌, ◌^◌, ◌<◌, ◌≤◌, Bool, true, false, cond, ◌⊎◌, List, length, ◌==◌, ◌≢◌, bit_xor, nat_lt, slice_index, slice_index_or, slice_set}
-use Rattle.numbers.specs.declared.Found.{Found}
-use Rattle.numbers.specs.declared.Found.TheVariants.{At, Nothing}
-use Rattle.pairs.specs.Keys.{word, least}
+use Rattle.std.specs.Prelude.{◌≡◌, ℕ, suc, ◌+◌, ◌*◌, ◌/◌, ◌%◌, ◌^◌, ◌<◌, ◌≤◌, Bool, true, false, cond, ◌⊎◌, List, length, ◌==◌, ◌≢◌, bit_xor, slice_index, slice_index_or, slice_set, Option, Some, None}
+use Rattle.pairs.specs.Keys.{word, least, most}
 use Rattle.pairs.specs.Indices.{at, FirstOf, Rising}
 use Rattle.pairs.specs.declared.places.Placed.{Placed}
 use Rattle.pairs.specs.declared.places.Placed.TheVariants.{Stays, Repeats, Differs}
 use Rattle.pairs.specs.declared.places.Step.{Step}
 use Rattle.pairs.specs.declared.places.Step.TheVariants.{Repeated, GivenUp, Left}
-use Rattle.pairs.specs.declared.first.Tried.{Tried}
-use Rattle.pairs.specs.declared.first.Tried.TheVariants.{Answered, Unanswered}
+use Rattle.pairs.specs.declared.sift.Sifted.{Sifted}
 
 -- where a key has its place
 unfoldable pub place_of : ℕ → ℕ → ℕ → ℕ → ℕ
@@ -31,9 +28,9 @@ abbrev pub folded : ℕ → ℕ
 folded z = bit_xor z (z / 2 ^ 29)
 
 -- what a key's places are made of: the key, or multiples of its halves with a seed
-abbrev pub stirred_by : Bool → ℕ → ℕ → ℕ
-stirred_by true seed x = folded (multiples (bit_xor x seed))
-stirred_by false seed x = x
+abbrev pub stirred_by : Option ℕ → ℕ → ℕ
+stirred_by (Some seed) x = folded (multiples (bit_xor x seed))
+stirred_by None x = x
 
 -- a list has room for all these places
 pub record Places (shift : ℕ) (list : List ℕ) : Type 0 where
@@ -44,6 +41,13 @@ pub record Places (shift : ℕ) (list : List ℕ) : Type 0 where
 pub record Sixteenth (shift : ℕ) (list : List ℕ) : Type 0 where
   pub short : shift + 4 < 64
   pub room : word ≤ length list / 16 * 2 ^ (shift + 4)
+
+-- so many places are room for all, and a sixteenth of them for a sixteenth
+pub record RoomFor (shift places : ℕ) : Type 0 where
+  pub limited : places ≤ 4 * most
+  pub short : shift + 4 < 64
+  pub all : word ≤ places * 2 ^ shift
+  pub few : word ≤ places / 16 * 2 ^ (shift + 4)
 
 -- each place is empty or has one of n records: the entry is 0, or one more than the record's index
 abbrev pub Held : ℕ → List ℕ → Type 0
@@ -117,15 +121,21 @@ pub record Sifts (key : ℕ → ℕ) (n m : ℕ) (before : ℕ → ℕ) (after :
   pub listed : Rising n left (at after)
   pub answers : (o : ℕ) → FirstOf key (at after) n left o → FirstOf key before n m (least o found)
 
--- those that are listed next: the same where the list has all that are left
-pub record Next (n : ℕ) (whole : Bool) (list : List ℕ) (found left : ℕ) (list' : List ℕ) (found' left' : ℕ) : Type 0 where
-  pub sifts : (key : ℕ → ℕ) → (whole ≡ true → Sifts key n n (λ u. u) list found left) → Sifts key n n (λ u. u) list' found' left'
+-- the records that are listed, or where none is listed yet all by their indices
+abbrev pub listed : Bool → List ℕ → ℕ → ℕ
+listed true list = at list
+listed false list = λ u. u
 
--- the first of n records, from its index or n
-abbrev pub found_at : ℕ → ℕ → Found
-found_at i n = cond (nat_lt i n) (At i) Nothing
+-- what is sifted, unless it was given up
+abbrev pub SiftsTo : (ℕ → ℕ) → ℕ → ℕ → (ℕ → ℕ) → List ℕ → Option Sifted → Type 0
+SiftsTo key n m before after (Some s) = Sifts key n m before after s.found s.left
+SiftsTo key n m before after None = Unit {0}
+
+-- those that are listed next: the same where the list has all that are left
+pub record Next (n : ℕ) (list : List ℕ) (before : Option Sifted) (list' : List ℕ) (after : Sifted) : Type 0 where
+  pub sifts : (key : ℕ → ℕ) → SiftsTo key n n (λ u. u) list before → Sifts key n n (λ u. u) list' after.found after.left
 
 -- a search that answers answers this
-abbrev pub Tries : (ℕ → Type 0) → Tried → Type 0
-Tries P (Answered i) = P i
-Tries P Unanswered = Unit {0}
+abbrev pub Tries : (ℕ → Type 0) → Option ℕ → Type 0
+Tries P (Some i) = P i
+Tries P None = Unit {0}

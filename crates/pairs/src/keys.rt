@@ -1,12 +1,10 @@
 // The keys of a list of records, and how many of the records are looked at.
 ghost use Rattle.std.specs.Prelude.{◌≡◌, ◌+◌, ◌/◌, ◌<◌, ◌≤◌, length};
-ghost use Rattle.numbers.specs.Bytes.{u32_at};
-ghost use Rattle.pairs.specs.Keys.{width_of, key_of, key_at, least, looked_at};
+ghost use Rattle.pairs.specs.Keys.{width_of, key_of, looked_at};
+ghost use Rattle.pairs.specs.Walks.{Keyed};
 
-use numbers::joined;
-
-// How many bytes of a record its key has.
-#[derive(Clone, Copy)]
+// How many bytes of a record its key has. (A value and no type: callers of `first_repeated` and `earlier` give it so.)
+#[derive(Clone, Copy, Debug, PartialEq, Eq)]
 pub enum Key {
     Four,
     Eight,
@@ -18,47 +16,15 @@ pub const MOST: usize = 4_096;
 // 2^32.
 pub(crate) const WORD: u64 = 4_294_967_296;
 
-// The u32 at a place.
-fn u32_at(s: &[u8], i: usize) -> u32
-    requires { i + 4 ≤ length s.now }
-    ensures { result ≡ u32_at s.now i }
-{
-    joined(s[i], s[i + 1], s[i + 2], s[i + 3])
-}
-
 // The key of a record's bytes.
 fn key_of(r: &[u8], key: Key) -> u64
     requires { width_of key ≤ length r.now }
     ensures { result ≡ key_of key r.now }
 {
     match key {
-        Key::Four => u32_at(r, 0) as u64,
-        Key::Eight => (u32_at(r, 0) as u64) + WORD * (u32_at(r, 4) as u64),
+        Key::Four => u64::from(u32::from_le_bytes([r[0], r[1], r[2], r[3]])),
+        Key::Eight => u64::from_le_bytes([r[0], r[1], r[2], r[3], r[4], r[5], r[6], r[7]]),
     }
-}
-
-// The key of record i.
-pub(crate) fn key_at(records: &[u8], size: usize, key: Key, i: usize) -> u64
-    requires { (width_of key ≤ size) × (i < length records.now / size) }
-    ensures { result ≡ key_at key size records.now i }
-{
-    let at = size * i;
-    let end = at + size;
-    key_of(&records[at..end], key)
-}
-
-// A u16 as an index.
-pub(crate) fn wide(x: u16) -> usize
-    ensures { result ≡ x }
-{
-    x as usize
-}
-
-// The smaller of two numbers.
-pub(crate) fn smaller(m: usize, n: usize) -> usize
-    ensures { result ≡ least m n }
-{
-    if m <= n { m } else { n }
 }
 
 fn width(key: Key) -> usize
@@ -71,12 +37,49 @@ fn width(key: Key) -> usize
 }
 
 // How many records are looked at.
-pub(crate) fn looked_at(records: &[u8], size: usize, key: Key) -> usize
-    ensures { result ≡ looked_at key size records.now }
+pub(crate) fn looked_at(bytes: &[u8], size: usize, key: Key) -> usize
+    ensures { result ≡ looked_at key size bytes.now }
 {
     if size < width(key) {
         0
     } else {
-        smaller(MOST, records.len() / size)
+        MOST.min(bytes.len() / size)
+    }
+}
+
+// The records that are looked at: the first n of a list, of which each has a key.
+#[derive(Clone, Copy)]
+pub(crate) struct Records<'a> {
+    pub(crate) bytes: &'a [u8],
+    pub(crate) size: usize,
+    pub(crate) key: Key,
+    pub(crate) n: usize,
+    pub(crate) ghost keyed: { Keyed key size bytes.now n },
+}
+
+impl Records<'_> {
+    ghost use Rattle.pairs.specs.Records.{keys_of};
+
+    // The key of record i.
+    pub(crate) fn key_at(&self, i: usize) -> u64
+        requires { i < self.now.n }
+        ensures { result ≡ keys_of self.now i }
+    {
+        let at = self.size * i;
+        let end = at + self.size;
+        key_of(&self.bytes[at..end], self.key)
+    }
+
+    // The same records, where the width of their keys is known.
+    pub(crate) fn of_width(&self, key: Key) -> Self
+        requires { key ≡ self.now.key }
+        ensures { (keys_of result ≡ keys_of self.now) × (result.n ≡ self.now.n) }
+    {
+        Records {
+            bytes: self.bytes,
+            size: self.size,
+            key,
+            n: self.n,
+        }
     }
 }

@@ -1,10 +1,11 @@
 // The two places of a record, by its key, and what comes of its try there: it stays at the first of them that is empty, or repeats the
 // record that has its key there, or is left where other keys are at both.
 ghost use Rattle.std.specs.Prelude.{◌≡◌, ◌/◌, ◌<◌, ◌≤◌, length};
-ghost use Rattle.pairs.specs.Keys.{width_of, key_at, most, word};
+ghost use Rattle.pairs.specs.Keys.{most, word};
+ghost use Rattle.pairs.specs.Records.{keys_of};
 ghost use Rattle.pairs.specs.Sifting.{place_of, first_place, second_place, stirred_by, Places, Held, Another, TriedAt, TriedSecond, kept, more, Puts, TriedBoth};
 
-use crate::keys::{Key, WORD, key_at, wide};
+use crate::keys::{Records, WORD};
 
 // Two odd factors, of a key's lower half and of its upper half. With these, records in which every account holds every mark leave few, in
 // nearly all files of that kind that were tried.
@@ -29,10 +30,10 @@ fn place_of(x: u64, lower: u64, upper: u64, shift: u32) -> usize
 
 // What a key's places are made of: the key, or where a list is sifted anew, two multiples of its halves after a seed has changed some of its
 // bits. Their higher bits change the lower ones, so that what is alike in keys, as equal steps from one to the next, is not alike any more.
-fn stirred(x: u64, seed: u64, anew: bool) -> u64
-    ensures { result ≡ stirred_by anew seed x }
+fn stirred(x: u64, seed: Option<u64>) -> u64
+    ensures { result ≡ stirred_by seed x }
 {
-    if anew {
+    if let Some(seed) = seed {
         let y = x ^ seed;
         let z = (y % WORD * LOW) ^ (y / WORD * HIGH);
         z ^ (z >> 29)
@@ -42,7 +43,7 @@ fn stirred(x: u64, seed: u64, anew: bool) -> u64
 }
 
 // What comes of a record's try at a place: it stays there, or repeats the record that is there, or that one has another key.
-#[derive(Clone, Copy)]
+#[derive(Clone, Copy, Debug, PartialEq, Eq)]
 pub enum Placed {
     Stays,
     Repeats,
@@ -50,30 +51,23 @@ pub enum Placed {
 }
 
 // Lets record i, whose key is x, try its first place.
-fn try_at(
-    records: &[u8],
-    size: usize,
-    key: Key,
-    place: &mut [u16],
-    spot: usize,
-    i: usize,
-    x: u64,
-) -> Placed
-    requires { (width_of key ≤ size) × (Held (length records.now / size) place.old) × (spot < length place.old) × (i < most) }
-    ensures { TriedAt (key_at key size records.now) place.old spot i x place.new result }
+fn try_at(records: &Records<'_>, place: &mut [u16], spot: usize, i: usize, x: u64) -> Placed
+    requires { (Held records.now.n place.old) × (spot < length place.old) × (i < most) }
+    ensures { TriedAt (keys_of records.now) place.old spot i x place.new result }
 {
-    let held = wide(place[spot]);
+    let held = usize::from(place[spot]);
     if held == 0 {
         place[spot] = (i + 1) as u16;
         return Placed::Stays;
     }
-    if key_at(records, size, key, held - 1) == x {
+    if records.key_at(held - 1) == x {
         return Placed::Repeats;
     }
     Placed::Differs
 }
 
-// What a place has, or where it is empty what another has.
+// What a place has, or where it is empty what another has. An entry is 0 or one more than an index, in two bytes, where an Option would take
+// four.
 fn held_at(held: usize, other: usize) -> usize
     ensures { result ≡ kept held other }
 {
@@ -82,21 +76,13 @@ fn held_at(held: usize, other: usize) -> usize
 
 // Whether the record at a second place has key x, where the one at the first has another. An empty place is answered by the first: so
 // there is one comparison, whatever the place has, and no branch that a processor would have to guess.
-fn repeats_at(
-    records: &[u8],
-    size: usize,
-    key: Key,
-    place: &[u16],
-    first: usize,
-    second: usize,
-    x: u64,
-) -> bool
-    requires { (width_of key ≤ size) × (Held (length records.now / size) place.now) × (first < length place.now)
-        × (second < length place.now) × (Another (key_at key size records.now) place.now first x) }
-    ensures { TriedSecond (key_at key size records.now) place.now second x result }
+fn repeats_at(records: &Records<'_>, place: &[u16], first: usize, second: usize, x: u64) -> bool
+    requires { (Held records.now.n place.now) × (first < length place.now) × (second < length place.now)
+        × Another (keys_of records.now) place.now first x }
+    ensures { TriedSecond (keys_of records.now) place.now second x result }
 {
-    let held = held_at(wide(place[second]), wide(place[first]));
-    key_at(records, size, key, held - 1) == x
+    let held = held_at(usize::from(place[second]), usize::from(place[first]));
+    records.key_at(held - 1) == x
 }
 
 // One more where a place is taken.
@@ -112,7 +98,7 @@ fn stay_or_list(place: &mut [u16], spot: usize, i: usize, list: &mut [u16], left
     requires { (spot < length place.old) × (left < length list.old) × (left < most) × (i < most) × (Held most place.old) }
     ensures { Puts place.old spot i list.old left place.new list.new result }
 {
-    let held = wide(place[spot]);
+    let held = usize::from(place[spot]);
     place[spot] = held_at(held, i + 1) as u16;
     list[left] = i as u16;
     one_more(left, held)
@@ -126,21 +112,19 @@ fn gives_up(left: usize, t: usize, early: usize) -> bool
 }
 
 // What comes of a record: it repeats another; or too many are left; or so many are.
-#[derive(Clone, Copy)]
+#[derive(Clone, Copy, Debug, PartialEq, Eq)]
 pub enum Step {
     Repeated,
     GivenUp,
     Left(usize),
 }
 
-// Lets record i try its two places, the one at t of those that are sifted; for the second place the two factors change their parts.
+// Lets record i try its two places, the one at t of those that are sifted; for the second place the two factors change their parts. How
+// many are left stands beside the list, which is a lent array, since nothing here allocates.
 pub(crate) fn try_both(
-    records: &[u8],
-    size: usize,
-    key: Key,
+    records: &Records<'_>,
     i: usize,
-    seed: u64,
-    anew: bool,
+    seed: Option<u64>,
     place: &mut [u16],
     shift: u32,
     list: &mut [u16],
@@ -148,17 +132,16 @@ pub(crate) fn try_both(
     t: usize,
     early: usize,
 ) -> Step
-    requires { (width_of key ≤ size) × (i < length records.now / size) × (i < most)
-        × (Held (length records.now / size) place.old) × (Held most place.old) × (Places shift place.old)
-        × (left < length list.old) × (left < most) }
-    ensures { TriedBoth (key_at key size records.now)
-        (λ x. first_place shift (stirred_by anew seed x)) (λ x. second_place shift (stirred_by anew seed x))
+    requires { (i < records.now.n) × (Held records.now.n place.old) × (Places shift place.old) × (left < length list.old)
+        × (left < most) }
+    ensures { TriedBoth (keys_of records.now)
+        (λ x. first_place shift (stirred_by seed x)) (λ x. second_place shift (stirred_by seed x))
         place.old list.old left i place.new list.new result }
 {
-    let x = key_at(records, size, key, i);
-    let y = stirred(x, seed, anew);
+    let x = records.key_at(i);
+    let y = stirred(x, seed);
     let first = place_of(y, LOWER, UPPER, shift);
-    match try_at(records, size, key, place, first, i, x) {
+    match try_at(records, place, first, i, x) {
         Placed::Stays => {
             return Step::Left(left);
         }
@@ -168,7 +151,7 @@ pub(crate) fn try_both(
         Placed::Differs => {}
     }
     let second = place_of(y, UPPER, LOWER, shift);
-    if repeats_at(records, size, key, place, first, second, x) {
+    if repeats_at(records, place, first, second, x) {
         return Step::Repeated;
     }
     if gives_up(left, t, early) {

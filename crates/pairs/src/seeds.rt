@@ -1,14 +1,12 @@
 // A seed: a number that is made of all keys of a list. Who knows where keys have their places can choose keys that crowd at few of them; but
 // which seed a list makes is known only when all its keys are chosen. No answer depends on it.
-ghost use Rattle.std.specs.Prelude.{◌<◌, ◌≤◌, length};
-ghost use Rattle.pairs.specs.Walks.{Keyed};
+ghost use Rattle.std.specs.Prelude.{length};
 ghost use Rattle.pairs.specs.Indices.{at, Rising};
 
-use crate::keys::{Key, key_at, wide};
-use std::num::wrapping_add_u64;
+use crate::keys::Records;
 
 // The four numbers into which keys are mixed, by the rounds of SipHash.
-#[derive(Clone, Copy)]
+#[derive(Clone, Copy, Debug, PartialEq, Eq)]
 pub struct Mix {
     a: u64,
     b: u64,
@@ -25,30 +23,22 @@ const START_C: u64 = 0x6c79_6765_6e65_7261;
 
 const START_D: u64 = 0x7465_6462_7974_6573;
 
-// The bits of a number, moved up by so many; the highest come to the lower end.
-fn turned(x: u64, by: u32) -> u64
-    requires { (0 < by) × (by < 64) }
-    ensures { Unit {0} }
-{
-    (x << by) | (x >> (64 - by))
-}
-
 // One round.
 fn stir(m: Mix) -> Mix
     ensures { Unit {0} }
 {
-    let mut a = wrapping_add_u64(m.a, m.b);
-    let mut b = turned(m.b, 13) ^ a;
-    let mut c = wrapping_add_u64(m.c, m.d);
-    let mut d = turned(m.d, 16) ^ c;
-    a = wrapping_add_u64(turned(a, 32), d);
-    d = turned(d, 21) ^ a;
-    c = wrapping_add_u64(c, b);
-    b = turned(b, 17) ^ c;
+    let mut a = m.a.wrapping_add(m.b);
+    let mut b = m.b.rotate_left(13) ^ a;
+    let mut c = m.c.wrapping_add(m.d);
+    let mut d = m.d.rotate_left(16) ^ c;
+    a = a.rotate_left(32).wrapping_add(d);
+    d = d.rotate_left(21) ^ a;
+    c = c.wrapping_add(b);
+    b = b.rotate_left(17) ^ c;
     Mix {
         a,
         b,
-        c: turned(c, 32),
+        c: c.rotate_left(32),
         d,
     }
 }
@@ -84,17 +74,10 @@ fn drawn(m: Mix) -> u64
     s.a ^ s.b ^ s.c ^ s.d
 }
 
-// The seed of m listed records, in a turn.
-pub(crate) fn seed_of(
-    records: &[u8],
-    size: usize,
-    key: Key,
-    n: usize,
-    list: &[u16],
-    m: usize,
-    turn: u64,
-) -> u64
-    requires { (Keyed key size records.now n) × (Rising n m (at list.now)) × (m ≤ length list.now) }
+// The seed of the listed records, in a turn. Not inlined: the loops of sifting need the registers.
+#[inline(never)]
+pub(crate) fn seed_of(records: &Records<'_>, list: &[u16], turn: u64) -> u64
+    requires { Rising records.now.n (length list.now) (at list.now) }
     ensures { Unit {0} }
 {
     let mut mix = Mix {
@@ -103,10 +86,8 @@ pub(crate) fn seed_of(
         c: START_C ^ turn,
         d: START_D,
     };
-    let mut t = 0;
-    while t < m {
-        mix = with_key(mix, key_at(records, size, key, wide(list[t])));
-        t += 1;
+    for i in list {
+        mix = with_key(mix, records.key_at(usize::from(*i)));
     }
     drawn(mix)
 }

@@ -1,4 +1,5 @@
 -- How far a value lies from the exact one: by the terms, and by the product.
+use Rattle.std.proofs.Common.{Some}
 use mathlib.Core.Path.{◌≡◌, ap}
 use mathlib.Core.Bool.{Bool, true, false, ◌||◌}
 use Prim.Native.Nat.{ℕ, ◌+◌, ◌*◌, ◌/◌, ◌%◌, ◌≤◌, ◌<◌}
@@ -17,7 +18,6 @@ use Rattle.pricing.specs.Value.{scale, bill_dividend, bill_divisor, bond_divisor
 use Rattle.pricing.specs.Accuracy.{twice_distance, number_in, accuracy_figures, accuracy_of}
 use Rattle.products.specs.declared.table.Code.{Code}
 use Rattle.products.specs.declared.table.Product.{Product}
-use Rattle.products.specs.declared.table.NamedProduct.TheVariants.{Named}
 use Rattle.products.specs.declared.table.Terms.{Terms}
 use Rattle.products.specs.declared.table.Terms.TheVariants.{Bill, Bond, CashRate}
 use Rattle.pricing.proofs.Distance.{ladder_distance}
@@ -88,14 +88,14 @@ all_roomy : Every Roomy products
 unfolding Roomy Room products scale accuracy_of accuracy_figures number_in same_code
 all_roomy = ((λ p f. tt), ((λ p f. tt), ((λ p f. tt), ((λ p f. (tt, tt)), ((λ p f. (tt, tt)), ((λ p f. (tt, tt)), tt))))))
 
-pub product_close : (code : Code) {product : Product} → find code ≡ Named product → (previous final : ℕ) {p : ℕ} → Listed product p
+pub product_close : (code : Code) {product : Product} → find code ≡ Some product → (previous final : ℕ) {p : ℕ} → Listed product p
     → Close 1000 (accuracy_of code previous final) (value_by product.terms p) (exact_by product.terms p)
 unfolding find Roomy
 product_close code {product} f previous final h =
     terms_close product.terms product.tick _ (rw (← (found-code code f)) (of_found Roomy products code all_roomy f previous final)) h.within h.on_tick
 
 -- lots of a difference of two values
-pub product_accurate : (code : Code) (previous final : ℕ) {m n : ℕ} {product : Product} → find code ≡ Named product → Listed product previous → Listed product final
+pub product_accurate : (code : Code) (previous final : ℕ) {m n : ℕ} {product : Product} → find code ≡ Some product → Listed product previous → Listed product final
     → value_by product.terms previous ≡ m → value_by product.terms final ≡ n → (lots : ℤ)
     → Within (pos 1000 *ℤ (lots *ℤ (pos n -ℤ pos m))) (pos 1000 times lots times (exact_of code final minus exact_of code previous))
     (accuracy_of code previous final * nat_abs lots)

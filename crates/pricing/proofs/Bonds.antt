@@ -1,4 +1,5 @@
 -- The bracket of each bond in the product table, and how far it lies from the exact one.
+use Rattle.std.proofs.Common.{Option, Some, None}
 use mathlib.Core.Path.{◌≡◌, refl}
 use Prim.Native.Nat.{ℕ, ◌*◌, ◌^◌, ◌≤◌}
 use native.Mathlib.Nat.{le_refl}
@@ -12,8 +13,6 @@ use Rattle.pricing.specs.Calls.{given, of_product, of_bond, at_price, bracket_of
 use Rattle.pricing.specs.Accuracy.{twice_distance}
 use Rattle.products.specs.declared.table.Code.{Code}
 use Rattle.products.specs.declared.table.Product.{Product}
-use Rattle.products.specs.declared.table.NamedProduct.{NamedProduct}
-use Rattle.products.specs.declared.table.NamedProduct.TheVariants.{Named, Missing}
 use Rattle.products.specs.declared.table.Terms.{Terms}
 use Rattle.products.specs.declared.table.Terms.TheVariants.{Bill, Bond, CashRate}
 use Rattle.pricing.proofs.Distance.{ladder_distance}
@@ -24,7 +23,7 @@ use Rattle.pricing.proofs.Answers.{Listed, not-given, after-price}
 -- the bracket b of a bond at a price within the limit and on the tick
 pub record Bracketed (code : Code) (p b : ℕ) : Type 0 where
   pub product : Product
-  pub found : find code ≡ Named product
+  pub found : find code ≡ Some product
   pub listed : Listed product p
   pub face : ℕ
   pub coupon : ℕ
@@ -33,7 +32,7 @@ pub record Bracketed (code : Code) (p b : ℕ) : Type 0 where
   pub is : bracket scale coupon halves (bond_divisor p) ≡ b
 
 module _ (code : Code) (p : ℕ) {b : ℕ} where
-  of_terms : (product : Product) → find code ≡ Named product → (t : Terms) → product.terms ≡ t
+  of_terms : (product : Product) → find code ≡ Some product → (t : Terms) → product.terms ≡ t
       → of_bond t (λ c n. at_price product.tick p (given (bracket scale c n (bond_divisor p)))) ≡ given b → Bracketed code p b
   of_terms product f (Bill face days) t e = not-given e
   of_terms product f (Bond face c n) t e =
@@ -50,10 +49,10 @@ module _ (code : Code) (p : ℕ) {b : ℕ} where
       }
   of_terms product f (CashRate cents) t e = not-given e
 
-  of_lookup : (f : NamedProduct) → find code ≡ f
+  of_lookup : (f : Option Product) → find code ≡ f
       → of_product f (λ product. of_bond product.terms (λ c n. at_price product.tick p (given (bracket scale c n (bond_divisor p))))) ≡ given b → Bracketed code p b
-  of_lookup (Named product) f e = of_terms product f product.terms refl e
-  of_lookup Missing f e = not-given e
+  of_lookup (Some product) f e = of_terms product f product.terms refl e
+  of_lookup None f e = not-given e
 
   pub bracketed : bracket_of code p ≡ given b → Bracketed code p b
   unfolding bracket_of

@@ -10,12 +10,10 @@ use Rattle.numbers.proofs.Rounding.{nearest_mono}
 use Rattle.products.specs.Products.{price_limit}
 use Rattle.pricing.specs.Ladder.{first_factor, annuity, bracket}
 use Rattle.pricing.specs.Value.{scale, bond_divisor}
-use Rattle.pricing.specs.Sizes.{Modest}
 use Rattle.pricing.specs.Rungs.{rung_at, next_of, Low}
 use Rattle.pricing.specs.declared.ladder.Rung.{Rung}
-use Rattle.products.specs.declared.table.Terms.TheVariants.{Bond}
 use Rattle.pricing.proofs.Factors.{factor-first, factor_next, annuity-none, annuity_next}
-use Rattle.pricing.proofs.Bounds.{scale_positive, first_cap, factor_cap, annuity_cap, bracket_cap}
+use Rattle.pricing.proofs.Bounds.{scale_positive, first_cap, factor_cap, annuity_cap}
 
 -- the first rung
 pub first_rung : (p : ℕ) {r : ℕ} → r ≡ first_factor scale (bond_divisor p) → record { first = r; v = r; sum = r } ≡ rung_at p 1
@@ -61,5 +59,5 @@ unfolding bracket rung_at
 rung_bracket p n x e is = is ∙ rw e
 
 -- a bracket times its face
-pub face_low : {p b face coupon halves : ℕ} → Modest (Bond face coupon halves) → p ≤ price_limit → b ≡ bracket scale coupon halves (bond_divisor p) → b * face ≤ 440_000_000_000 * 100_000
-face_low m h e = mul-le-mul {n₂ = 440_000_000_000} (rw e (bracket_cap h m.1 m.3)) m.0
+pub face_low : {face coupon b : ℕ} {l : Rung} → face ≤ 100_000 → coupon ≤ 3 → Low l → b ≡ coupon * l.sum + 100 * l.v → b * face ≤ 22_000_000_000 * 100_000
+face_low h k s e = mul-le-mul {n₂ = 22_000_000_000} (omega (arith, mul-le-mul k s.sum, s.v)) h

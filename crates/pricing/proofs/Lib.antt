@@ -2,13 +2,13 @@ pub mod Factors
 pub mod Distance
 pub mod Exact
 pub mod TableLines
+pub mod Made
+pub mod Zero
 pub mod Bounds
 pub mod Climbing
 pub mod Rise
 pub mod Answers
-pub mod PriceChecks
 pub mod SideBySide
-pub mod Checking
 pub mod Refusals
 pub mod Accuracy
 pub mod Bonds

@@ -1,6 +1,7 @@
 -- What is promised of one contract. Open this file first: each law is stated here in the terms of specs/, its argument stands in the file it cites.
+use Rattle.std.proofs.Common.{Some}
 use mathlib.Core.List.{[], ◌∷◌, map}
-use mathlib.Core.Path.{◌≡◌, refl, sym, ap, ◌∙◌}
+use mathlib.Core.Path.{◌≡◌, refl, ap, ◌∙◌}
 use Prim.Native.Nat.{ℕ, suc, ◌+◌, ◌*◌, ◌%◌, ◌^◌, ◌≤◌, ◌<◌}
 use native.Mathlib.Nat.{add-mod_right}
 use native.Mathlib.Omega.{arith}
@@ -21,7 +22,6 @@ use Rattle.pricing.specs.Conditions.{check_number, value_checks, tick_value_chec
 use Rattle.pricing.specs.Accuracy.{twice_distance, entry, number_in, distances_in, accuracy_figures, accuracy_of}
 use Rattle.products.specs.declared.table.Code.{Code}
 use Rattle.products.specs.declared.table.Product.{Product}
-use Rattle.products.specs.declared.table.NamedProduct.TheVariants.{Named}
 use Rattle.products.specs.declared.table.Terms.{Terms}
 use Rattle.products.specs.declared.table.Terms.TheVariants.{Bill, Bond, CashRate}
 use Rattle.pricing.proofs.Distance as distance
@@ -53,7 +53,7 @@ pub exact_bracket_lem : (c n Y : ℕ) → Same (exact_bracket c n (base + Y)) (r
 exact_bracket_lem c n Y = exact.bracket-whole (base + Y) (omega arith) c n
 
 -- The bracket that is given for a bond of the table lies within the distance too.
-pub bracket_distance : (code : Code) (p : ℕ) {b face c n : ℕ} {product : Product} → find code ≡ Named product → product.terms ≡ Bond face c n → bracket_of code p ≡ given b
+pub bracket_distance : (code : Code) (p : ℕ) {b face c n : ℕ} {product : Product} → find code ≡ Some product → product.terms ≡ Bond face c n → bracket_of code p ≡ given b
     → Near (2 * (b * bond_divisor p ^ n)) (2 * (scale * whole_bracket c n (bond_divisor p))) (twice_distance c n * bond_divisor p ^ n)
 bracket_distance code p {c} {n} {product} f t e =
     let h = bracketed code p e in
@@ -100,7 +100,7 @@ value_rises code {p} {p'} l e e' =
     rw (← h.is, ← h'.is, s) (value_by_rises h.product.terms l h'.listed.within)
 
 -- So a tick value is what the next value has more: the subtraction of naturals in its definition cuts nothing off.
-pub tick_value_adds : (code : Code) (p : ℕ) {d : ℕ} {product : Product} → find code ≡ Named product → tick_value_of code p ≡ given d
+pub tick_value_adds : (code : Code) (p : ℕ) {d : ℕ} {product : Product} → find code ≡ Some product → tick_value_of code p ≡ given d
     → (m : ℕ) × (value_of code p ≡ given m) × (value_of code (p + product.tick) ≡ given (m + d))
 tick_value_adds code p {product = product} f e =
     let (h, d, g) = tick-valued code p f e in
@@ -129,7 +129,7 @@ exact_bond face c n p =
     record { proper = (s.proper.1, s.proper.0); same = omega (arith, ap (λ (t : ℕ). t * face) s.same) }
 
 -- of the product that a code names
-pub exact_named : (code : Code) (p : ℕ) {product : Product} → find code ≡ Named product → exact_of code p ≡ exact_by product.terms p
+pub exact_named : (code : Code) (p : ℕ) {product : Product} → find code ≡ Some product → exact_of code p ≡ exact_by product.terms p
 exact_named code p f = exact-of code p f
 
 -- ---- accuracy
@@ -158,7 +158,7 @@ unfolding scale
 factor-small h k = factor_cap h k
 
 -- No power of a listed bond outgrows 32 bits: of each bond of the table, at every price up to the limit, each Vk from V1 to Vn is below 2^32.
-pub factor_in_32_bits : (code : Code) (p k : ℕ) {face c n : ℕ} {product : Product} → find code ≡ Named product → product.terms ≡ Bond face c n
+pub factor_in_32_bits : (code : Code) (p k : ℕ) {face c n : ℕ} {product : Product} → find code ≡ Some product → product.terms ≡ Bond face c n
     → p ≤ price_limit → 1 ≤ k → k ≤ n → factor scale (bond_divisor p) k < 2 ^ 32
 unfolding scale
 factor_in_32_bits code p k f t h low high = omega (arith, factor_cap h k)
@@ -167,12 +167,12 @@ factor_in_32_bits code p k f t h low high = omega (arith, factor_cap h k)
 pub value_cap_lem : (code : Code) (p : ℕ) {n : ℕ} → value_of code p ≡ given n → n ≤ value_cap
 value_cap_lem code p e =
     let h = valued code p e in
-    rw (← h.is) (value_by_cap h.listed.within h.product.terms (modest_line code (sym h.found) refl).terms)
+    rw (← h.is) (value_by_cap h.listed.within h.product.terms (modest_line code h.found).terms)
 
 -- ---- the formulas in document 01's numbers
 
 -- A value is given for each code of the table at each price within the limit and on the tick.
-pub value_given : (code : Code) {product : Product} {p : ℕ} → find code ≡ Named product → p ≤ price_limit → p % product.tick ≡ 0 → value_of code p ≡ given (value_by product.terms p)
+pub value_given : (code : Code) {product : Product} {p : ℕ} → find code ≡ Some product → p ≤ price_limit → p % product.tick ≡ 0 → value_of code p ≡ given (value_by product.terms p)
 value_given code {p = p} f l t = gives-value code p f (record { within = l; on_tick = t })
 
 -- A bill: 3,650,000,000,000,000 divided by (36,500,000 + 9 times Y), rounded once.
@@ -210,7 +210,7 @@ unfolding value_by scale
 bond_formula face c n p = refl
 
 -- A bond's value is the bracket that is given, times face and divided by 10^8, rounded.
-pub value_by-bracket : (code : Code) (p : ℕ) {b face c n : ℕ} {product : Product} → find code ≡ Named product → product.terms ≡ Bond face c n → bracket_of code p ≡ given b
+pub value_by-bracket : (code : Code) (p : ℕ) {b face c n : ℕ} {product : Product} → find code ≡ Some product → product.terms ≡ Bond face c n → bracket_of code p ≡ given b
     → value_of code p ≡ given (nearest (b * face) 100_000_000)
 unfolding value_by scale
 value_by-bracket code p {b} {face} {c} {n} {product} f t e =

@@ -1,17 +1,15 @@
 -- The answers of the single-contract calls, with the numbers of the checks that turn a call away.
-use Rattle.std.specs.Prelude.{ℕ, ◌+◌, ◌-◌, ◌%◌, Bool, cond, List, leb, eqb, get_or}
+use Rattle.std.specs.Prelude.{Result, Ok, Err, ℕ, ◌+◌, ◌-◌, ◌%◌, Bool, cond, List, leb, eqb, get_or, Option, Some, None}
 use Rattle.numbers.specs.Folds.{table}
 use Rattle.products.specs.Products.{price_limit, find}
 use Rattle.pricing.specs.Ladder.{bracket}
 use Rattle.pricing.specs.Value.{scale, bond_divisor, value_by}
+use Rattle.faults.specs.Faults.{number_of}
+use Rattle.faults.specs.declared.fault.Fault.{Fault}
 use Rattle.products.specs.declared.table.Code.{Code}
 use Rattle.products.specs.declared.table.Product.{Product}
 use Rattle.products.specs.declared.table.Terms.{Terms}
 use Rattle.products.specs.declared.table.Terms.TheVariants.{Bill, Bond, CashRate}
-use Rattle.products.specs.declared.table.NamedProduct.{NamedProduct}
-use Rattle.products.specs.declared.table.NamedProduct.TheVariants.{Named, Missing}
-use Rattle.pricing.specs.declared.contract.Priced.{Priced}
-use Rattle.pricing.specs.declared.contract.Priced.TheVariants as priced
 
 -- the answer of a call: a number, or the number of the check that turns it away and a record's index
 pub data Answer : Type 0 where
@@ -19,18 +17,18 @@ pub data Answer : Type 0 where
   refused : ℕ → ℕ → Answer
 
 -- what an answer of the code says; a call on one contract has no records, and its index is 0
-abbrev pub said : Priced → Answer
-said (priced.Given n) = given n
-said (priced.Refused k) = refused k 0
+abbrev pub said : Result ℕ Fault → Answer
+said (Ok n) = given n
+said (Err fault) = refused (number_of fault) 0
 
 -- the answer a, unless check k fails
 abbrev pub check : ℕ → Bool → Answer → Answer
 check k passed a = cond passed a (refused k 0)
 
 -- check 4, then the answer of the product
-abbrev pub of_product : NamedProduct → (Product → Answer) → Answer
-of_product (Named product) f = f product
-of_product Missing f = refused 4 0
+abbrev pub of_product : Option Product → (Product → Answer) → Answer
+of_product (Some product) f = f product
+of_product None f = refused 4 0
 
 -- checks 6 and 7 of a price, then the answer a
 abbrev pub at_price : ℕ → ℕ → Answer → Answer

@@ -1,45 +1,23 @@
 -- Checks 4, 6 and 7 as the code decides them, before it works a number. No caller of the crate sees these.
-use Rattle.std.specs.Prelude.{ℕ, ◌%◌, Bool, true, false, cond, leb, eqb}
-use Rattle.products.specs.Products.{price_limit, find}
-use Rattle.pricing.specs.Calls.{Answer, refused}
-use Rattle.products.specs.declared.table.Code.{Code}
-use Rattle.products.specs.declared.table.Product.{Product}
+use Rattle.std.specs.Prelude.{ℕ, ◌≡◌, ◌≤◌, Result, Ok, Err}
+use Rattle.faults.specs.Faults.{number_of}
+use Rattle.faults.specs.declared.fault.Fault.{Fault}
+use Rattle.products.specs.Products.{price_limit}
 use Rattle.products.specs.declared.table.Terms.{Terms}
-use Rattle.products.specs.declared.table.NamedProduct.{NamedProduct}
-use Rattle.products.specs.declared.table.NamedProduct.TheVariants.{Named, Missing}
-use Rattle.pricing.specs.declared.contract.PriceChecked.{PriceChecked}
-use Rattle.pricing.specs.declared.contract.PriceChecked.TheVariants.{Passed, Failed}
-use Rattle.pricing.specs.declared.contract.Checked.{Checked}
-use Rattle.pricing.specs.declared.contract.Checked.TheVariants as checked
+use Rattle.pricing.specs.declared.listed.Listed.{Listed}
+use Rattle.pricing.specs.Calls.{Answer, refused, at_price}
 
--- checks 6 and 7 of a price
-unfoldable pub price_checked : ℕ → ℕ → PriceChecked
-price_checked tick p = cond (leb p price_limit) (cond (eqb (p % tick) 0) Passed (Failed 7)) (Failed 6)
+-- the answer a where the checks pass, else their refusal
+abbrev pub after : Result (Unit {0}) Fault → Answer → Answer
+after (Ok x) a = a
+after (Err fault) a = refused (number_of fault) 0
 
--- checks 6 and 7 of a price of the product
-abbrev pub checked_product : Product → PriceChecked → Checked
-checked_product product Passed = checked.Product product.terms product.tick
-checked_product product (Failed k) = checked.Refused k
+-- they pass: the price is within the limit, and any answer stays
+pub record Passes (tick p : ℕ) : Type 0 where
+  pub low : p ≤ price_limit
+  pub answer : (a : Answer) → at_price tick p a ≡ a
 
--- check 4 before them
-abbrev pub check_in : NamedProduct → ℕ → Checked
-check_in (Named product) p = checked_product product (price_checked product.tick p)
-check_in Missing p = checked.Refused 4
-
-unfoldable pub check_of : Code → ℕ → Checked
-check_of code p = check_in (find code) p
-
--- the answer for the terms and the tick of the product, where the three pass
-abbrev pub of_checked : Checked → (Terms → ℕ → Answer) → Answer
-of_checked (checked.Product t tick) f = f t tick
-of_checked (checked.Refused k) f = refused k 0
-
--- a price fails check 6 or 7
-abbrev pub is_failed : PriceChecked → Bool
-is_failed Passed = false
-is_failed (Failed k) = true
-
--- a number for a price that passes, else 0
-abbrev pub if_passed : PriceChecked → ℕ → ℕ
-if_passed Passed n = n
-if_passed (Failed k) n = 0
+-- the answer by the terms and the tick of the product where there is one, else the refusal
+abbrev pub of_listed : Result Listed Fault → (Terms → ℕ → Answer) → Answer
+of_listed (Ok product) f = f product.terms product.tick
+of_listed (Err fault) f = refused (number_of fault) 0

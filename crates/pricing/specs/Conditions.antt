@@ -1,5 +1,5 @@
 -- When a single-contract call is turned away: the conditions of its checks, as statements about the code and the price.
-use Rattle.std.specs.Prelude.{ℕ, ◌+◌, ◌<◌, ◌≡◌, ◌↔◌}
+use Rattle.std.specs.Prelude.{ℕ, ◌+◌, ◌<◌, ◌≡◌, ◌↔◌, Some}
 use Rattle.std.specs.Int.{◌∣◌}
 use mathlib.Core.List.{List, [], ◌∷◌}
 use Rattle.numbers.specs.Order.{Decides, Clear}
@@ -7,7 +7,6 @@ use Rattle.products.specs.Products.{price_limit, find, Unlisted}
 use Rattle.pricing.specs.Calls.{Answer, given, refused}
 use Rattle.products.specs.declared.table.Code.{Code}
 use Rattle.products.specs.declared.table.Product.{Product}
-use Rattle.products.specs.declared.table.NamedProduct.TheVariants.{Named}
 use Rattle.products.specs.declared.table.Terms.TheVariants.{Bond}
 
 pub data ContractCheck : Type 0 where
@@ -29,13 +28,13 @@ abbrev pub HoldsAt : Code → ℕ → ContractCheck → ℕ → Type 0
 -- 4: the code is not in the product table
 HoldsAt code p NoProduct i = (i ≡ 0) × Unlisted code
 -- 4, for a bracket: it is no code of a bond
-HoldsAt code p NoBond i = (i ≡ 0) × ((product : Product) → find code ≡ Named product → (face c n : ℕ) → ¬ (product.terms ≡ Bond face c n))
+HoldsAt code p NoBond i = (i ≡ 0) × ((product : Product) → find code ≡ Some product → (face c n : ℕ) → ¬ (product.terms ≡ Bond face c n))
 -- 6: the price is above 1,000,000
 HoldsAt code p AboveLimit i = (i ≡ 0) × (price_limit < p)
 -- 7: the price is not a multiple of the product's tick
-HoldsAt code p OffTick i = (i ≡ 0) × ((product : Product) × (find code ≡ Named product) × ¬ (product.tick ∣ p))
+HoldsAt code p OffTick i = (i ≡ 0) × ((product : Product) × (find code ≡ Some product) × ¬ (product.tick ∣ p))
 -- 15: p + tick is above 1,000,000
-HoldsAt code p NextAboveLimit i = (i ≡ 0) × ((product : Product) × (find code ≡ Named product) × (price_limit < p + product.tick))
+HoldsAt code p NextAboveLimit i = (i ≡ 0) × ((product : Product) × (find code ≡ Some product) × (price_limit < p + product.tick))
 
 -- the checks of each call, in their order
 abbrev pub value_checks : List ContractCheck

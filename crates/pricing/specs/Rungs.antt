@@ -15,6 +15,10 @@ rung_at p k = record { first = first_factor scale (bond_divisor p); v = factor s
 unfoldable pub next_of : Rung → Rung
 next_of l = record { first = l.first; v = nearest (l.v * l.first) scale; sum = l.sum + nearest (l.v * l.first) scale }
 
+-- the value of a bond in cents by its ladder's last rung
+abbrev pub bond_of : ℕ → ℕ → Rung → ℕ
+bond_of face coupon l = nearest ((coupon * l.sum + 100 * l.v) * face) scale
+
 -- a rung whose successor fits 64 bits
 pub record Low (l : Rung) : Type 0 where
   pub first : l.first ≤ 100_000_000
@@ -24,9 +28,7 @@ pub record Low (l : Rung) : Type 0 where
 abbrev pub no_rung : Rung
 no_rung = record { first = 0; v = 0; sum = 0 }
 
-pub record AllLow (l : List Rung) : Type 0 where
-  pub lane : (i : ℕ) → i < lanes → Low (get_or l i no_rung)
-
--- prices within the limit
-pub record Within (p : List ℕ) : Type 0 where
-  pub lane : (i : ℕ) → i < lanes → get_or p i 0 ≤ price_limit
+-- few prices, within the limit
+pub record Within (n : ℕ) (p : List ℕ) : Type 0 where
+  pub few : n ≤ lanes
+  pub lane : (i : ℕ) → i < n → get_or p i 0 ≤ price_limit

@@ -1,15 +1,14 @@
 -- The value of one contract in cents, rounded as document 01 says, and exactly.
-use Rattle.std.specs.Prelude.{ℕ, ◌+◌, ◌*◌, ◌^◌}
+use Rattle.std.specs.Prelude.{ℕ, ◌+◌, ◌*◌, ◌^◌, Option, Some, None}
 use Rattle.numbers.specs.Rounding.{nearest}
 use Rattle.numbers.specs.Fractions.{Fraction, wholly}
 use Rattle.pricing.specs.Prices.{yield_at, hundred_percent}
 use Rattle.products.specs.Products.{find}
 use Rattle.pricing.specs.Ladder.{base, bracket, whole_bracket}
 use Rattle.products.specs.declared.table.Code.{Code}
-use Rattle.products.specs.declared.table.NamedProduct.{NamedProduct}
-use Rattle.products.specs.declared.table.NamedProduct.TheVariants.{Named, Missing}
 use Rattle.products.specs.declared.table.Terms.{Terms}
 use Rattle.products.specs.declared.table.Terms.TheVariants.{Bill, Bond, CashRate}
+use Rattle.products.specs.declared.table.Product.{Product}
 
 -- one, in the units of the bond ladder: eight decimals
 unfoldable pub scale : ℕ
@@ -38,9 +37,9 @@ exact_by (Bill face days) p = record { num = bill_dividend face; den = bill_divi
 exact_by (Bond face c n) p = record { num = whole_bracket c n (bond_divisor p) * face; den = bond_divisor p ^ n }
 exact_by (CashRate cents) p = record { num = cents * p; den = 100 }
 
-abbrev pub exact_in : NamedProduct → ℕ → Fraction
-exact_in (Named product) p = exact_by product.terms p
-exact_in Missing p = wholly 0
+abbrev pub exact_in : Option Product → ℕ → Fraction
+exact_in (Some product) p = exact_by product.terms p
+exact_in None p = wholly 0
 
 -- the exact value of the product that a code names
 unfoldable pub exact_of : Code → ℕ → Fraction

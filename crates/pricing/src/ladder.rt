@@ -1,37 +1,29 @@
 // The bond ladder: discount factors by rounded powers, in units of 10^-8. A factor is held in 32 bits and widened for
-// arithmetic; a sum of factors has 64.
-ghost use Rattle.std.specs.Prelude.{◌≡◌, ◌+◌, ◌*◌, ◌≤◌};
+// arithmetic; a sum of factors has 64. `as` narrows a factor where it is proved to fit: `try_from` would test it again.
+ghost use Rattle.std.specs.Prelude.{◌≡◌, ◌+◌, ◌*◌, ◌<◌, ◌≤◌, get_or};
+ghost use Rattle.numbers.specs.Folds.{Filled};
 ghost use Rattle.numbers.specs.Rounding.{nearest};
 ghost use Rattle.products.specs.Products.{price_limit};
-ghost use Rattle.pricing.specs.Ladder.{first_factor, bracket};
+ghost use Rattle.pricing.specs.Ladder.{first_factor};
 ghost use Rattle.pricing.specs.Value.{scale, bond_divisor};
-ghost use Rattle.pricing.specs.Rungs.{rung_at, next_of, Low};
+ghost use Rattle.pricing.specs.Rungs.{rung_at, next_of, no_rung, bond_of, Low, Within};
 
+use crate::prices::yield_at;
 use crate::rounding::rounded;
+use std::array::from_fn;
 
 // One, in the units of the ladder.
 const SCALE: u64 = 100_000_000;
 
-// The price of yield 0, in units of 0.0001.
-pub(crate) const PAR: u64 = 1_000_000;
-
 // A yield of 200 per cent, which is 100 per cent for a half year.
 const BASE: u64 = 2_000_000;
 
-// A bracket times its face, over SCALE and rounded.
-pub(crate) fn descaled(x: u64) -> u64
-    requires { x ≤ 1000000000000000000 }
-    ensures { result ≡ nearest x scale }
-{
-    rounded(x, SCALE)
-}
-
 // V1: 2,000,000 over (2,000,000 + Y), rounded.
-fn first_factor(p: u64) -> u32
+fn first_factor(p: u32) -> u32
     requires { p ≤ price_limit }
     ensures { result ≡ first_factor scale (bond_divisor p) }
 {
-    rounded(BASE * SCALE, BASE + (PAR - p)) as u32
+    rounded(BASE * SCALE, BASE + yield_at(p)) as u32
 }
 
 // The step of the ladder: the factor after Vk, as its arithmetic has it, is Vk times V1 over SCALE, rounded.
@@ -39,11 +31,11 @@ fn next_factor(v: u32, first: u32) -> u64
     requires { v * first ≤ 1000000000000000000 }
     ensures { result ≡ nearest (v * first) scale }
 {
-    rounded(v as u64 * first as u64, SCALE)
+    rounded(u64::from(v) * u64::from(first), SCALE)
 }
 
 // A ladder at one of its rungs: V1, Vk and V1 + .. + Vk.
-#[derive(Clone, Copy)]
+#[derive(Clone, Copy, Debug, PartialEq, Eq)]
 pub struct Rung {
     pub first: u32,
     pub v: u32,
@@ -51,7 +43,7 @@ pub struct Rung {
 }
 
 // The first rung at a price.
-pub(crate) fn start(p: u64) -> Rung
+pub(crate) fn start(p: u32) -> Rung
     requires { p ≤ price_limit }
     ensures { result ≡ rung_at p 1 }
 {
@@ -59,7 +51,7 @@ pub(crate) fn start(p: u64) -> Rung
     Rung {
         first,
         v: first,
-        sum: first as u64,
+        sum: u64::from(first),
     }
 }
 
@@ -81,46 +73,35 @@ pub(crate) fn bracket_of(coupon: u64, l: Rung) -> u64
     requires { (coupon ≤ 3) × Low l }
     ensures { result ≡ coupon * l.sum + 100 * l.v }
 {
-    coupon * l.sum + 100 * l.v as u64
+    coupon * l.sum + 100 * u64::from(l.v)
 }
 
-// The bracket of a bond.
-pub(crate) fn bracket_at(coupon: u64, halves: u64, p: u64) -> u64
-    requires { (coupon ≤ 3) × (1 ≤ halves) × (halves ≤ 40) × (p ≤ price_limit) }
-    ensures { result ≡ bracket scale coupon halves (bond_divisor p) }
+// The value of a bond in cents by its ladder's last rung: bracket times face over SCALE, rounded.
+pub(crate) fn bond_of(face: u64, coupon: u64, last: Rung) -> u64
+    requires { (face ≤ 100000) × (coupon ≤ 3) × Low last }
+    ensures { result ≡ bond_of face coupon last }
 {
-    let mut l = start(p);
-    let mut k = 1;
-    while k < halves {
-        l = climb(l);
-        k += 1;
-    }
-    bracket_of(coupon, l)
+    rounded(bracket_of(coupon, last) * face, SCALE)
 }
 
-// What holds at one price, and at another.
-#[derive(Clone, Copy)]
-pub struct Two {
-    pub one: u64,
-    pub other: u64,
-}
-
-// The brackets of a bond at two prices, whose ladders are climbed side by side.
-pub(crate) fn brackets_at(coupon: u64, halves: u64, p: u64, other: u64) -> Two
-    requires { (coupon ≤ 3) × (1 ≤ halves) × (halves ≤ 40) × (p ≤ price_limit) × (other ≤ price_limit) }
-    ensures { (result.one ≡ bracket scale coupon halves (bond_divisor p))
-        × (result.other ≡ bracket scale coupon halves (bond_divisor other)) }
+// The last rung at each price. The ladders are climbed side by side, so that none waits for another.
+pub(crate) fn ladders<const N: usize>(halves: u64, p: [u32; N]) -> [Rung; N]
+    requires { (1 ≤ halves) × (halves ≤ 40) × Within N p }
+    ensures { Filled no_rung (λ i. rung_at (get_or p.entry i 0) halves) N result }
 {
-    let mut l = start(p);
-    let mut m = start(other);
-    let mut k = 1;
-    while k < halves {
-        l = climb(l);
-        m = climb(m);
-        k += 1;
+    let mut l = from_fn(
+        |i| -> Rung
+            requires { (i < N) × (get_or p i 0 ≤ price_limit) }
+            ensures { result ≡ rung_at (get_or p i 0) 1 }
+        { start(p[i]) },
+    );
+    for _ in 1..halves {
+        l = from_fn(
+            |i| -> Rung
+                requires { (i < N) × Low (get_or l i no_rung) }
+                ensures { result ≡ next_of (get_or l i no_rung) }
+            { climb(l[i]) },
+        );
     }
-    Two {
-        one: bracket_of(coupon, l),
-        other: bracket_of(coupon, m),
-    }
+    l
 }

@@ -3,11 +3,11 @@
 
 mod contract;
 mod ladder;
-mod lanes;
+mod listed;
+mod prices;
 mod rounding;
 mod values;
 mod valuing;
 
-pub use contract::{Priced, bracket, tick_value, value};
-pub use lanes::LANES;
-pub use valuing::{value_or_zero, values_or_zero};
+pub use contract::{bracket, tick_value, value};
+pub use valuing::{LANES, value_or_zero, values_or_zero};

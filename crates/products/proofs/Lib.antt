@@ -1,4 +1,3 @@
 pub mod Finding
 pub mod Months
 pub mod Listing
-pub mod ByCode

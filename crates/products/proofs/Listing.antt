@@ -1,4 +1,5 @@
 -- What is promised of the product table, as document 01 lists it.
+use Rattle.std.proofs.Common.{Option, Some, None}
 use mathlib.Core.Path.{◌≡◌, refl}
 use mathlib.Core.Bool.{true}
 use mathlib.Core.List.{[], ◌∷◌, map, Memᴰ}
@@ -9,27 +10,25 @@ use Rattle.products.specs.Products.{IR, BB, IB, YT, XT, XX, products, same_code,
 use Rattle.products.specs.declared.table.Code.{Code}
 use Rattle.products.specs.declared.table.Currency.TheVariants.{Aud, Nzd}
 use Rattle.products.specs.declared.table.Product.{Product}
-use Rattle.products.specs.declared.table.NamedProduct.{NamedProduct}
-use Rattle.products.specs.declared.table.NamedProduct.TheVariants.{Named, Missing}
 use Rattle.products.proofs.Finding.{Every, of_found, found_member, found-code, missing-none}
 use Rattle.products.proofs.Months as months
 
 -- The product that a code names is a line of the table with that code.
-pub found-line : (code : Code) {product : Product} → find code ≡ Named product → Memᴰ product products × (product.code ≡ code)
+pub found-line : (code : Code) {product : Product} → find code ≡ Some product → Memᴰ product products × (product.code ≡ code)
 found-line code e = (found_member code e, found-code code e)
 
 -- Each line is the product that its code names.
-pub lines_found : map (λ product. find product.code) products ≡ map Named products
+pub lines_found : map (λ product. find product.code) products ≡ map Some products
 unfolding products same_code find_in find
 lines_found = refl
 
 -- A code names no product exactly where no line has it.
-pub none_found : (code : Code) → (find code ≡ Missing) ↔ Unlisted code
+pub none_found : (code : Code) → (find code ≡ None) ↔ Unlisted code
 none_found code = (missing-none code, λ h. by_found (find code) refl h)
   where
-    by_found : (f : NamedProduct) → find code ≡ f → Unlisted code → f ≡ Missing
-    by_found (Named product) e h = absurd (h product (found_member code e) (found-code code e))
-    by_found Missing e h = refl
+    by_found : (f : Option Product) → find code ≡ f → Unlisted code → f ≡ None
+    by_found (Some product) e h = absurd (h product (found_member code e) (found-code code e))
+    by_found None e h = refl
 
 -- The codes, ticks, currencies and months of the six lines.
 pub codes_are : map (λ product. product.code) products ≡ IR ∷ BB ∷ IB ∷ YT ∷ XT ∷ XX ∷ []
@@ -59,6 +58,6 @@ all_positive : Every (λ product. 0 < product.tick) products
 unfolding products
 all_positive = search arith
 
-pub tick_positive : (code : Code) {product : Product} → find code ≡ Named product → 0 < product.tick
+pub tick_positive : (code : Code) {product : Product} → find code ≡ Some product → 0 < product.tick
 unfolding find
 tick_positive code f = of_found (λ product. 0 < product.tick) products code all_positive f

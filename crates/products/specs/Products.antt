@@ -1,5 +1,5 @@
 -- The product table, and the product that a code names.
-use Rattle.std.specs.Prelude.{ℕ, zero, suc, ◌+◌, ◌/◌, ◌%◌, ◌^◌, ◌≡◌, Bool, true, false, cond, ◌&&◌, eqb, ltb}
+use Rattle.std.specs.Prelude.{ℕ, zero, suc, ◌+◌, ◌/◌, ◌%◌, ◌^◌, ◌≡◌, Bool, true, false, cond, ◌&&◌, eqb, ltb, Option, Some, None}
 use mathlib.Core.List.{List, [], ◌∷◌, ◌++◌, Memᴰ}
 use Rattle.products.specs.declared.table.Code.{Code}
 use Rattle.products.specs.declared.table.Currency.{Currency}
@@ -7,8 +7,6 @@ use Rattle.products.specs.declared.table.Currency.TheVariants.{Aud, Nzd}
 use Rattle.products.specs.declared.table.Product.{Product}
 use Rattle.products.specs.declared.table.Terms.{Terms}
 use Rattle.products.specs.declared.table.Terms.TheVariants.{Bill, Bond, CashRate}
-use Rattle.products.specs.declared.table.NamedProduct.{NamedProduct}
-use Rattle.products.specs.declared.table.NamedProduct.TheVariants.{Named, Missing}
 
 -- the highest price, in units of 0.0001
 unfoldable pub price_limit : ℕ
@@ -65,11 +63,11 @@ unfoldable pub same_code : Code → Code → Bool
 same_code a b = eqb a.0 b.0 && eqb a.1 b.1
 
 -- the first line of a table that a code names
-unfoldable pub find_in : List Product → Code → NamedProduct
-find_in [] a = Missing
-find_in (product ∷ rest) a = cond (same_code a product.code) (Named product) (find_in rest a)
+unfoldable pub find_in : List Product → Code → Option Product
+find_in [] a = None
+find_in (product ∷ rest) a = cond (same_code a product.code) (Some product) (find_in rest a)
 
-unfoldable pub find : Code → NamedProduct
+unfoldable pub find : Code → Option Product
 find a = find_in products a
 
 -- no line of the product table has the code
@@ -77,9 +75,9 @@ abbrev pub Unlisted : Code → Type 0
 Unlisted code = (product : Product) → Memᴰ product products → ¬ (product.code ≡ code)
 
 -- the product's currency, Australian where there is no product
-abbrev pub currency_in : NamedProduct → Currency
-currency_in (Named product) = product.currency
-currency_in Missing = Aud
+abbrev pub currency_in : Option Product → Currency
+currency_in (Some product) = product.currency
+currency_in None = Aud
 
 unfoldable pub currency_of : Code → Currency
 currency_of a = currency_in (find a)
@@ -90,9 +88,9 @@ bond_terms (Bill face days) = false
 bond_terms (Bond face c n) = true
 bond_terms (CashRate cents) = false
 
-abbrev pub bond_in : NamedProduct → Bool
-bond_in (Named product) = bond_terms product.terms
-bond_in Missing = false
+abbrev pub bond_in : Option Product → Bool
+bond_in (Some product) = bond_terms product.terms
+bond_in None = false
 
 unfoldable pub is_bond : Code → Bool
 is_bond a = bond_in (find a)

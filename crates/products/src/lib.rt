@@ -4,6 +4,6 @@
 mod table;
 
 pub use table::{
-    Code, Currency, NamedProduct, PRICE_LIMIT, PRODUCTS, Product, Terms, currency_of, has_month,
-    is_bond, lookup, off_tick, same_code,
+    Code, Currency, PRICE_LIMIT, PRODUCTS, Product, Terms, currency_of, has_month, is_bond, lookup,
+    off_tick, same_code,
 };

@@ -1,24 +1,22 @@
 // The product table, and the product that a code names.
-ghost use Rattle.std.specs.Prelude.{◌≡◌, not, eqb, ◌%◌, ◌<◌, get_or};
-ghost use Rattle.products.specs.Products.{products, no_product, same_code, find, currency_of, bond_terms, is_bond, has_month};
-
-use numbers::joined;
+ghost use Rattle.std.specs.Prelude.{◌≡◌, not, eqb, ◌%◌, ◌<◌};
+ghost use Rattle.products.specs.Products.{products, same_code, find, currency_of, is_bond, has_month};
 
 // The highest price, in units of 0.0001.
 pub const PRICE_LIMIT: u32 = 1_000_000;
 
 // The two letters of a product's code. Any two bytes may be asked for.
-#[derive(Clone, Copy)]
+#[derive(Clone, Copy, Debug, Default, PartialEq, Eq, Hash)]
 pub struct Code(pub u8, pub u8);
 
-#[derive(Clone, Copy)]
+#[derive(Clone, Copy, Debug, PartialEq, Eq, Hash)]
 pub enum Currency {
     Aud,
     Nzd,
 }
 
 // What a product is, with the terms of its kind.
-#[derive(Clone, Copy)]
+#[derive(Clone, Copy, Debug, PartialEq, Eq, Hash)]
 pub enum Terms {
     Bill { face: u64, days: u64 },
     // The half-yearly coupon on 100 of face, and the number of half years.
@@ -27,7 +25,7 @@ pub enum Terms {
     CashRate { cents: u64 },
 }
 
-#[derive(Clone, Copy)]
+#[derive(Clone, Copy, Debug, PartialEq, Eq, Hash)]
 pub struct Product {
     pub code: Code,
     pub terms: Terms,
@@ -105,81 +103,44 @@ pub const PRODUCTS: [Product; 6] = [
     },
 ];
 
-#[derive(Clone, Copy)]
-pub enum NamedProduct {
-    Named(Product),
-    Missing,
-}
-
-// The table's line i.
-fn line(i: usize) -> Product
-    requires { i < 6 }
-    ensures { result ≡ get_or products i no_product }
-{
-    PRODUCTS[i]
-}
-
 // Whether two codes have the same letters. They are compared as one number, so that the compiler searches the table by numbers.
 pub fn same_code(a: Code, b: Code) -> bool
     ensures { result ≡ same_code a b }
 {
-    joined(a.0, a.1, 0, 0) == joined(b.0, b.1, 0, 0)
+    u16::from_le_bytes([a.0, a.1]) == u16::from_le_bytes([b.0, b.1])
 }
 
-// The product that a code names.
-pub fn lookup(code: Code) -> NamedProduct
+// The table's lines, as the definition lists them.
+fn lines() -> [Product; 6]
+    ensures { result ≡ products }
+{
+    PRODUCTS
+}
+
+// The product that a code names. The lines are taken by value, so that the compiler knows each one's constants where it is found.
+pub fn lookup(code: Code) -> Option<Product>
     ensures { result ≡ find code }
 {
-    let mut i = 0;
-    while i < 6 {
-        let product = line(i);
+    for product in lines() {
         if same_code(code, product.code) {
-            return NamedProduct::Named(product);
+            return Some(product);
         }
-        i += 1;
     }
-    NamedProduct::Missing
+    None
 }
 
 // A product's currency, Australian where there is no product.
 pub fn currency_of(code: Code) -> Currency
     ensures { result ≡ currency_of code }
 {
-    match lookup(code) {
-        NamedProduct::Named(product) => {
-            let c = product.currency;
-            c
-        }
-        NamedProduct::Missing => Currency::Aud,
-    }
-}
-
-// Whether terms are a bond's.
-fn bond_terms(t: Terms) -> bool
-    ensures { result ≡ bond_terms t }
-{
-    match t {
-        Terms::Bill { face: _, days: _ } => false,
-        Terms::Bond {
-            face: _,
-            coupon: _,
-            halves: _,
-        } => true,
-        Terms::CashRate { cents: _ } => false,
-    }
+    lookup(code).map_or(Currency::Aud, |product| product.currency)
 }
 
 // Whether a code names a bond.
 pub fn is_bond(code: Code) -> bool
     ensures { result ≡ is_bond code }
 {
-    match lookup(code) {
-        NamedProduct::Named(product) => {
-            let t = product.terms;
-            bond_terms(t)
-        }
-        NamedProduct::Missing => false,
-    }
+    lookup(code).is_some_and(|product| matches!(product.terms, Terms::Bond { .. }))
 }
 
 // Whether a price is not a multiple of a tick. The table's ticks, 50 and 100, are constants here: the compiler divides by a constant
@@ -187,25 +148,16 @@ pub fn is_bond(code: Code) -> bool
 pub fn off_tick(p: u32, tick: u32) -> bool
     ensures { result ≡ not (eqb (p % tick) 0) }
 {
-    if tick == 50 {
-        return p % 50 != 0;
+    match tick {
+        50 => p % 50 != 0,
+        100 => p % 100 != 0,
+        _ => !p.is_multiple_of(tick),
     }
-    if tick == 100 {
-        return p % 100 != 0;
-    }
-    if tick == 0 {
-        return p != 0;
-    }
-    p % tick != 0
 }
 
 // Whether a month is one of the product's.
 pub fn has_month(product: Product, month: u8) -> bool
     ensures { result ≡ has_month product month }
 {
-    if month < 16 {
-        (product.months >> month) % 2 == 1
-    } else {
-        false
-    }
+    month < 16 && (product.months >> month) % 2 == 1
 }

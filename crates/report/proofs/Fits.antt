@@ -16,8 +16,6 @@ use Rattle.dayfile.specs.Limits.{file_limits}
 use Rattle.dayfile.specs.Records.{Lists, position_at, mark_size, position_size}
 use Rattle.numbers.specs.Folds.{repeating}
 use Rattle.numbers.specs.Checks.{only, ◌before◌, decision_of}
-use Rattle.numbers.specs.declared.deciding.Decision.{Decision}
-use Rattle.numbers.specs.declared.deciding.Decision.TheVariants.{Met, Unmet}
 use Rattle.numbers.proofs.Checks.{Sized, sized_before, number-within, index_within}
 use Rattle.dayfile.specs.Layout.{lists_in, lists_of_file, counts_of, header_size, positions_start, mark_bytes, position_bytes}
 use Rattle.dayfile.specs.Opening.{header_checks, opened_of}
@@ -31,8 +29,8 @@ use Rattle.dayfile.specs.WithinLimits.{ListsWithinLimits, LaidOut}
 use Rattle.settlement.specs.SettlingSteps.{amount_cap}
 use Rattle.dayfile.specs.declared.records.Correction.{Correction}
 use Rattle.dayfile.specs.declared.file.DayFile.{DayFile}
-use Rattle.dayfile.specs.declared.file.Opened.{Opened}
-use Rattle.dayfile.specs.declared.file.Opened.TheVariants.{File, Refused}
+use Rattle.dayfile.specs.Opening.{Opened}
+use Rattle.dayfile.specs.Opening.{File, Refused}
 use Rattle.checks.proofs.Passed.{passed_parts, mark_in_lem, lots_in}
 use Rattle.dayfile.proofs.Parts.{lists_within}
 use Rattle.settlement.proofs.Changes.{change_bound}
@@ -46,6 +44,7 @@ use Rattle.numbers.specs.Bytes.{Bytes}
 use Rattle.numbers.proofs.Bytes.{part_bytes, u32_small}
 use Rattle.report.proofs.Lengths.{mark_read, position_read, line-length, totals-length, refusal_length}
 use Rattle.report.specs.Sheet.{answer_text, positions_text, sheet_of, line_size, sheet_size}
+use Rattle.numbers.specs.Order.{Decision, Met, Unmet}
 
 -- ---- a file that is accepted
 

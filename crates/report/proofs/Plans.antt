@@ -1,13 +1,16 @@
 -- From the plan that a file is settled by to the lines of its sheet.
 use mathlib.Core.Path.{◌≡◌, refl, sym, ap, ◌∙◌}
 use mathlib.Core.Bool.{Bool, true, false, cond}
+use Rattle.std.specs.Prelude.{Result}
 use mathlib.Core.List.{List, []}
 use Prim.Native.Nat.{ℕ, ◌≤◌}
 use native.Mathlib.Omega.{arith}
 use borrow.Author.Tests.{ltb-false}
 use lib.Dec.{ltb}
 use lib.IntN.{ℤ, pos}
-use lib.ListN.{length, get_or, drop}
+use lib.ListN.{length, get_or, take, drop}
+use lib.Seq.{length-take-le}
+use Rattle.std.proofs.lemmas.List.{get_or-take}
 use Rattle.text.specs.Writing.{texts}
 use Rattle.text.proofs.Writing.{texts-same}
 use Rattle.dayfile.specs.Limits.{file_limits}
@@ -15,14 +18,13 @@ use Rattle.dayfile.specs.Records.{Lists, mark_at, position_at, marks_in, positio
 use Rattle.dayfile.specs.Layout.{counts_of, lists_in, lists_of_file}
 use Rattle.dayfile.specs.Opening.{opened_of}
 use Rattle.numbers.specs.Checks.{decision_of}
-use Rattle.numbers.specs.declared.deciding.Decision.{Decision}
-use Rattle.numbers.specs.declared.deciding.Decision.TheVariants.{Met, Unmet}
 use Rattle.checks.specs.Judging.{record_checks, file_checks}
 use Rattle.settlement.specs.Settling.{Plan, accept, refuse, plan_of, said, answer_of, amounts_after, amount_of, change_in}
 use Rattle.dayfile.specs.declared.file.DayFile.{DayFile}
-use Rattle.dayfile.specs.declared.file.Opened.{Opened}
-use Rattle.dayfile.specs.declared.file.Opened.TheVariants.{File, Refused}
-use Rattle.settlement.specs.declared.settling.Settlement.{Settlement}
+use Rattle.dayfile.specs.Opening.{Opened}
+use Rattle.dayfile.specs.Opening.{File, Refused}
+use Rattle.settlement.specs.declared.settling.Settled.{Settled}
+use Rattle.faults.specs.declared.refusal.Refusal.{Refusal}
 use Rattle.dayfile.proofs.Refusals.{opened_decides}
 use Rattle.checks.proofs.Passed.{passed_parts, mark_in_lem}
 use Rattle.settlement.proofs.Plans.{plan_from, plan_decided, refused_plan}
@@ -31,6 +33,7 @@ use Rattle.numbers.specs.Integers.{entry_of}
 use Rattle.report.specs.Lines.{position_line, line_at}
 use Rattle.report.specs.Sheet.{positions_text}
 use Rattle.report.specs.Writers.{Paid, Named, count_of, lines_in}
+use Rattle.numbers.specs.Order.{Decision, Met, Unmet}
 
 -- the lines that the writer puts down are those of the plan, their amounts stand in the slice, and each names a mark
 pub record Lined (ls : Lists) (plan : Plan) (n : ℕ) (a : List ℤ) : Type 0 where
@@ -76,13 +79,16 @@ settled_lines s a {n} {d = d} e f p =
     by_decision (Met k i) v h = lined_refused (lists_of_file s) a h
     by_decision Unmet v h = by_room (lists_of_file s) a (passed_parts file_limits s v).1 (ltb (length a) (length (lists_of_file s).positions)) refl h
 
--- the lines of two sections are those of their lists
-pub lines_by : (a : List ℤ) (n : ℕ) {m m' p p' : List ℕ} → m ≡ m' → p ≡ p'
-    → texts (line_at (marks_in m) (positions_in p) (entry_of a)) n ≡ texts (line_at (marks_in m') (positions_in p') (entry_of a)) n
-lines_by a n e f = rw (e, f)
+-- the lines of two sections, with the first n amounts of a slice, are those of their lists
+pub lines_by : (a : List ℤ) (n : ℕ) {m m' p p' : List ℕ} → n ≤ length a → m ≡ m' → p ≡ p'
+    → texts (line_at (marks_in m) (positions_in p) (entry_of (take n a))) (length (take n a)) ≡ texts (line_at (marks_in m') (positions_in p') (entry_of a)) n
+lines_by a n {m' = m} {p' = p} h e f =
+    rw (e, f, length-take-le n a h)
+    (texts-same _ _ n (λ i k. ap (position_line (position_at (positions_in p) i).account (mark_at (marks_in m) (position_at (positions_in p) i).mark))
+    (get_or-take n a i (pos 0) k)))
 
 -- the answer and the slice of a settlement carry out the plan
-pub paid : (s : List ℕ) (before now : List ℤ) (r : Settlement) → length now ≡ length before → said r ≡ answer_of file_limits s (length before)
+pub paid : (s : List ℕ) (before now : List ℤ) (r : Result Settled Refusal) → length now ≡ length before → said r ≡ answer_of file_limits s (length before)
     → now ≡ amounts_after file_limits s before → Paid (plan_of file_limits s (length now)) (count_of (said r)) now
 unfolding answer_of amounts_after
 paid s before now r e a w = rw e (record { before = before; written = w; count = ap count_of a })

@@ -1,5 +1,6 @@
 -- The whole sheet: from its two parts, as they are written, to the definition.
 use mathlib.Core.Path.{◌≡◌, refl, ap₂}
+use Rattle.std.specs.Prelude.{Result}
 use mathlib.Core.List.{List, ◌++◌}
 use Prim.Native.Nat.{ℕ, ◌≤◌, ◌<◌}
 use native.Mathlib.Nat.{le_trans}
@@ -10,7 +11,8 @@ use Rattle.text.specs.Writing.{Wrote, Writes}
 use Rattle.text.proofs.Writing.{wrote_none, writes_as}
 use Rattle.dayfile.specs.Limits.{file_limits}
 use Rattle.settlement.specs.Settling.{said, plan_of, answer_of, amounts_after}
-use Rattle.settlement.specs.declared.settling.Settlement.{Settlement}
+use Rattle.settlement.specs.declared.settling.Settled.{Settled}
+use Rattle.faults.specs.declared.refusal.Refusal.{Refusal}
 use Rattle.numbers.specs.Bytes.{Bytes}
 use Rattle.report.specs.Sheet.{answer_text, positions_text, sheet_of, sheet_size, sheet_within, amounts_within}
 use Rattle.report.proofs.Fits.{sheet_fits}
@@ -21,7 +23,7 @@ pub sheet_no_room : (file : List ℕ) (places : ℕ) (a : List ℤ) (out : List 
 unfolding sheet_within amounts_within
 sheet_no_room file places a out h = rw (lt-leb _ _ h) (wrote_none out, refl)
 
-module _ (file : List ℕ) (before now : List ℤ) (r : Settlement) where
+module _ (file : List ℕ) (before now : List ℤ) (r : Result Settled Refusal) where
   parts_are_sheet : length now ≡ length before → said r ≡ answer_of file_limits file (length before)
       → positions_text (plan_of file_limits file (length now)) ++ answer_text (said r) ≡ sheet_of file (length before)
   unfolding sheet_of

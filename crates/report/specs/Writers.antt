@@ -1,5 +1,5 @@
 -- What the writers of a sheet ask of each other and give. No caller sees these.
-use Rattle.std.specs.Prelude.{◌≡◌, ℕ, ◌+◌, ◌*◌, ◌≤◌, ◌<◌, List, [], ◌∷◌, ◌++◌, ℤ, length, get_or, take, drop, replicate}
+use Rattle.std.specs.Prelude.{◌≡◌, ℕ, ◌+◌, ◌≤◌, ◌<◌, List, [], ◌∷◌, ◌++◌, ℤ, length, get_or, take, drop, replicate}
 use Rattle.text.specs.Decimal.{decimal, signed_decimal}
 use Rattle.text.specs.Writing.{over, texts}
 use Rattle.products.specs.Products.{currency_of}
@@ -58,10 +58,6 @@ rest_in words at amount = fields_in words at ++ money_in words at amount
 
 abbrev pub line_with : List ℕ → ℕ → ℕ → ℤ → List ℕ
 line_with words at account amount = ended (decimal account) space ++ rest_in words at amount
-
--- the line of the position with index i, with the words of the mark that it names
-abbrev pub line_from : List ℕ → List Position → (ℕ → ℤ) → ℕ → List ℕ
-line_from words ps amount i = line_with words (16 * (position_at ps i).mark) (position_at ps i).account (amount i)
 
 -- each of the first n positions names a mark
 abbrev pub Named : List Mark → List Position → ℕ → Type 0

@@ -7,34 +7,41 @@ ghost use Rattle.products.specs.Products.{currency_of};
 ghost use Rattle.report.specs.Lines.{space, newline, ended, letters_of};
 
 use products::{Code, Currency, currency_of};
-use text::{write_byte, write_decimal, write_signed, write_text};
+use text::{digit_pairs, write_byte, write_decimal, write_signed, write_text};
 
-pub(crate) fn write_number(pairs: &[u8; 200], n: u64, end: u8, out: &mut [u8]) -> usize
-    requires { pairs.now ≡ digit_pairs }
-    ensures { Writes (ended (decimal n) end) result out.old out.new }
-{
-    let k = write_decimal(pairs, n, out);
-    k + write_byte(end, &mut out[k..])
+// The figures that numbers are written with. They are made once for a sheet.
+#[derive(Drop)]
+pub(crate) struct Figures {
+    pairs: [u8; 200],
+    ghost made: { pairs ≡ digit_pairs },
 }
 
-pub(crate) fn write_cents(pairs: &[u8; 200], n: i64, end: u8, out: &mut [u8]) -> usize
-    requires { pairs.now ≡ digit_pairs }
-    ensures { Writes (ended (signed_decimal n) end) result out.old out.new }
-{
-    let k = write_signed(pairs, n, out);
-    k + write_byte(end, &mut out[k..])
+impl Figures {
+    pub(crate) fn new() -> Figures {
+        Figures {
+            pairs: digit_pairs(),
+        }
+    }
+
+    pub(crate) fn write_number(&self, n: u64, end: u8, out: &mut [u8]) -> usize
+        ensures { Writes (ended (decimal n) end) result out.old out.new }
+    {
+        let k = write_decimal(&self.pairs, n, out);
+        k + write_byte(end, &mut out[k..])
+    }
+
+    pub(crate) fn write_cents(&self, n: i64, end: u8, out: &mut [u8]) -> usize
+        ensures { Writes (ended (signed_decimal n) end) result out.old out.new }
+    {
+        let k = write_signed(&self.pairs, n, out);
+        k + write_byte(end, &mut out[k..])
+    }
 }
 
 pub(crate) fn write_code(code: Code, out: &mut [u8]) -> usize
     ensures { Writes (code.0 ∷ code.1 ∷ space ∷ []) result out.old out.new }
 {
-    if out.len() < 3 {
-        return 0;
-    }
-    out[0] = code.0;
-    out[1] = code.1;
-    out[2] = b' ';
-    3
+    write_text(&[code.0, code.1, b' '], out)
 }
 
 // Writes the currency of a code, and the line's end.

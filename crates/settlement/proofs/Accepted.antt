@@ -12,14 +12,13 @@ use Rattle.dayfile.specs.Limits.{Limits}
 use Rattle.dayfile.specs.Records.{Lists}
 use Rattle.dayfile.specs.Layout.{lists_of_file}
 use Rattle.numbers.specs.Checks.{decision_of}
-use Rattle.numbers.specs.declared.deciding.Decision.{Decision}
-use Rattle.numbers.specs.declared.deciding.Decision.TheVariants.{Met, Unmet}
 use Rattle.checks.specs.Judging.{record_checks, file_checks}
 use Rattle.dayfile.proofs.Opening.{Opens, opens, opens_file}
 use Rattle.checks.proofs.Passed.{passed_parts, parts_passed, mark_in_lem, lots_in}
 use Rattle.settlement.specs.Settling.{settled, accept, refuse, plan_of, answer_by, answer_of}
 use Rattle.settlement.specs.SettlingSteps.{ListsPass, Payable, Named}
 use Rattle.settlement.proofs.Plans.{plan_from, plan_decided}
+use Rattle.numbers.specs.Order.{Decision, Met, Unmet}
 
 pub payable : (ls : Lists) → ListsPass ls → Payable ls.positions
 payable ls a =

@@ -1,5 +1,6 @@
 -- Files for checks 2 to 13 and 16, and files just inside their bounds, answered by the definitions; from check 4 on the second record of a section
 -- is the one that is looked at. Then what each check finds by itself.
+use Rattle.std.proofs.Common.{Option, Some, None}
 use mathlib.Core.Path.{◌≡◌, refl}
 use mathlib.Core.List.{List, [], ◌∷◌, ◌++◌, map}
 use Prim.Native.Nat.{ℕ}
@@ -18,8 +19,6 @@ use Rattle.dayfile.specs.Layout.{counts_of}
 use Rattle.dayfile.specs.Making.{counts_in, entry_bytes, header_of, made_of}
 use Rattle.checks.specs.Table.{listed, code_has_month, tick_of}
 use Rattle.numbers.specs.Checks.{decision_of, finding_by}
-use Rattle.numbers.specs.declared.Found.{Found}
-use Rattle.numbers.specs.declared.Found.TheVariants.{At, Nothing}
 use Rattle.checks.specs.Judging.{judged_of}
 use Rattle.checks.specs.Finding.{found_of}
 use Rattle.settlement.specs.ContractValue.{value_or_zero}
@@ -138,7 +137,7 @@ room-last = (refl, refl)
 pub record Findings : Type 0 where
   pub file : List ℕ
   pub asked : List ℕ
-  pub found : List Found
+  pub found : List (Option ℕ)
 
 unfoldable pub findings : List Findings
 findings =
@@ -146,7 +145,7 @@ findings =
     record {
       file = file_of (mark_of BB 6 19 940050 940100) (three 5 2 951000) (three 12 1 0) ++ (0 ∷ []);
       asked = 1 ∷ 2 ∷ 3 ∷ 4 ∷ 5 ∷ 6 ∷ 7 ∷ 8 ∷ 9 ∷ 10 ∷ 11 ∷ 12 ∷ 13 ∷ 14 ∷ 16 ∷ [];
-      found = Nothing ∷ Nothing ∷ At 0 ∷ Nothing ∷ Nothing ∷ Nothing ∷ At 1 ∷ Nothing ∷ At 1 ∷ Nothing ∷ Nothing ∷ Nothing ∷ At 1 ∷ Nothing ∷ Nothing ∷ [];
+      found = None ∷ None ∷ Some 0 ∷ None ∷ None ∷ None ∷ Some 1 ∷ None ∷ Some 1 ∷ None ∷ None ∷ None ∷ Some 1 ∷ None ∷ None ∷ [];
     }
     -- all of 3 to 13 and 16, most of them at two records: the first is found
     ∷ record {
@@ -158,37 +157,37 @@ findings =
           (three 11 0 10 ++ three 12 5 4 ++ three 13 0 0 ++ three 14 9 0 ++ three 12 5 9 ++ three 11 0 1)
           ++ (0 ∷ []);
       asked = 1 ∷ 2 ∷ 3 ∷ 4 ∷ 5 ∷ 6 ∷ 7 ∷ 8 ∷ 9 ∷ 10 ∷ 11 ∷ 12 ∷ 13 ∷ 14 ∷ 16 ∷ [];
-      found = Nothing ∷ Nothing ∷ At 0 ∷ At 1 ∷ At 1 ∷ At 2 ∷ At 3 ∷ At 3 ∷ At 1 ∷ At 3 ∷ At 3 ∷ At 1 ∷ At 2 ∷ Nothing ∷ At 4 ∷ [];
+      found = None ∷ None ∷ Some 0 ∷ Some 1 ∷ Some 1 ∷ Some 2 ∷ Some 3 ∷ Some 3 ∷ Some 1 ∷ Some 3 ∷ Some 3 ∷ Some 1 ∷ Some 2 ∷ None ∷ Some 4 ∷ [];
     }
     -- shorter than a header: its length alone is looked at
     ∷ record {
       file = take 23 (header 257 25 0 24 0 24);
       asked = 0 ∷ 1 ∷ 2 ∷ 3 ∷ 4 ∷ [];
-      found = Nothing ∷ At 0 ∷ Nothing ∷ Nothing ∷ Nothing ∷ [];
+      found = None ∷ Some 0 ∷ None ∷ None ∷ None ∷ [];
     }
     -- a count above its limit: the header alone, though there is a mark with every fault
     ∷ record {
       file = header 257 24 0 3108 0 3108 ++ mark_of (66, 67) 7 100 1000001 1000001;
       asked = 1 ∷ 2 ∷ 3 ∷ 4 ∷ 5 ∷ 6 ∷ 7 ∷ [];
-      found = Nothing ∷ At 0 ∷ At 0 ∷ Nothing ∷ Nothing ∷ Nothing ∷ Nothing ∷ [];
+      found = None ∷ Some 0 ∷ Some 0 ∷ None ∷ None ∷ None ∷ None ∷ [];
     }
     -- a code in no table has no months and no tick
     ∷ record {
       file = file_of (mark_of (66, 67) 6 19 940001 940003) (three 5 1 951001) p;
       asked = 4 ∷ 5 ∷ 6 ∷ 7 ∷ 10 ∷ [];
-      found = At 1 ∷ At 1 ∷ Nothing ∷ Nothing ∷ Nothing ∷ [];
+      found = Some 1 ∷ Some 1 ∷ None ∷ None ∷ None ∷ [];
     }
     -- cut in its last record: whole records are looked at
     ∷ record {
       file = take 95 (file_of m (three 5 2 951001) (three 12 2 0));
       asked = 3 ∷ 9 ∷ 10 ∷ 12 ∷ 13 ∷ [];
-      found = At 0 ∷ At 1 ∷ Nothing ∷ Nothing ∷ Nothing ∷ [];
+      found = Some 0 ∷ Some 1 ∷ None ∷ None ∷ None ∷ [];
     }
     -- a wrong offset: the sections are cut by the counts
     ∷ record {
       file = header 1 24 0 48 1 36 ++ mark_of IR 3 18 950000 950200 ++ three 11 0 0;
       asked = 3 ∷ 4 ∷ 9 ∷ 12 ∷ 13 ∷ [];
-      found = At 0 ∷ Nothing ∷ Nothing ∷ Nothing ∷ At 0 ∷ [];
+      found = Some 0 ∷ None ∷ None ∷ None ∷ Some 0 ∷ [];
     }
     ∷ []
 

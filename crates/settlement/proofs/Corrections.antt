@@ -1,4 +1,5 @@
 -- Checks 9 to 11 go by which corrections stand in the list, and not by their order or how often.
+use Rattle.std.proofs.Common.{None}
 use mathlib.Core.Path.{◌≡◌, refl, sym, ap, ap₂, ◌∙◌}
 use mathlib.Core.Bool.{Bool, true, false, not, ◌&&◌, ◌||◌}
 use mathlib.Core.List.{List}
@@ -10,18 +11,17 @@ use borrow.Author.Tests.{eqb-true, eq-eqb, ltb-true, ltb-false}
 use Rattle.numbers.specs.Folds.{repeating, first}
 use Rattle.dayfile.specs.Records.{Lists, correction_at, mark_at}
 use Rattle.numbers.specs.Checks.{decision_of, finding_of}
-use Rattle.numbers.specs.declared.deciding.Decision.TheVariants.{Unmet}
 use Rattle.checks.specs.Corrections.{bad_price, clashing, clash_pair, CorrectionCheck, CorrectionMark, CorrectionPrice, CorrectionClash, correction_checks}
 use Rattle.checks.specs.Judging.{record_checks}
 use Rattle.settlement.specs.Prices.{AllIn}
 use Rattle.dayfile.specs.declared.records.Mark.{Mark}
 use Rattle.dayfile.specs.declared.records.Correction.{Correction}
 use Rattle.dayfile.specs.declared.records.Position.{Position}
-use Rattle.numbers.specs.declared.Found.TheVariants.{Nothing}
 use Rattle.numbers.proofs.Truth.{eqb_comm}
 use Rattle.numbers.proofs.Searches.{clear_first, some_clear, clear_some}
 use Rattle.numbers.proofs.Checks.{unmet}
 use Rattle.checks.proofs.Passed.{parts, whole, correction_passes}
+use Rattle.numbers.specs.Order.{Unmet}
 
 abbrev pub lists_with : List Mark → List Position → List Correction → Lists
 lists_with ms ps cs = record { marks = ms; corrections = cs; positions = ps }
@@ -71,10 +71,10 @@ module _ (ms : List Mark) (ps : List Position) (cs : List Correction) (passed : 
       whole (lists_with ms ps ds) p.0 (unmet (correction_checks ms ds) (λ c m. still c)) p.2
     where
       -- a test of one correction
-      each : (t : Correction → Bool) → ((i : ℕ) → i < length cs → t (correction_at cs i) ≡ false) → first (λ i. t (correction_at ds i)) (length ds) ≡ Nothing
+      each : (t : Correction → Bool) → ((i : ℕ) → i < length cs → t (correction_at cs i) ≡ false) → first (λ i. t (correction_at ds i)) (length ds) ≡ None
       each t h = clear_first (λ i. t (correction_at ds i)) (length ds) (λ j hj. let (i, hi, e) = back j hj in ap t (sym e) ∙ h i hi)
 
-      clashes : first (repeating (clash_pair ds)) (length ds) ≡ Nothing
+      clashes : first (repeating (clash_pair ds)) (length ds) ≡ None
       clashes =
           clear_first (repeating (clash_pair ds)) (length ds)
           (λ i hi. clear_some (clash_pair ds i) i
@@ -83,7 +83,7 @@ module _ (ms : List Mark) (ps : List Position) (cs : List Correction) (passed : 
           let (k', hk', f) = back k (omega arith) in
           ap₂ clashing (sym e) (sym f) ∙ apart i' k' hi' hk'))
 
-      still : (c : CorrectionCheck) → finding_of (correction_checks ms ds) c ≡ Nothing
+      still : (c : CorrectionCheck) → finding_of (correction_checks ms ds) c ≡ None
       still CorrectionMark = each (λ c. leb (length ms) c.mark) (λ i h. correction_passes (lists_with ms ps cs) passed i CorrectionMark h)
       still CorrectionPrice = each (λ c. bad_price (mark_at ms c.mark) c.price) (λ i h. correction_passes (lists_with ms ps cs) passed i CorrectionPrice h)
       still CorrectionClash = clashes

@@ -26,7 +26,7 @@ use Rattle.pricing.proofs.SideBySide.{values_at}
 use Rattle.settlement.specs.ContractValue.{value_or_zero}
 use Rattle.settlement.specs.Prices.{final_of, change_of}
 use Rattle.settlement.specs.SettlingSteps.{changes_of, blank}
-use Rattle.settlement.specs.Groups.{group_size, alike_in, Grouped, InFile, Capped, last_of, lane_price, lanes_change, set_all, Right, Worked, Works}
+use Rattle.settlement.specs.Groups.{group_size, alike_in, Grouped, Capped, last_of, lane_price, lanes_change, set_all, Right, Worked, Works}
 use Rattle.settlement.proofs.Pricing.{value_bound}
 use Rattle.settlement.proofs.Changes.{change_at, change_past, blank-at, length-blank}
 
@@ -71,9 +71,6 @@ grouped_more ms {n} {i} {g} {count} {m} f h l e a =
     go_alike : (k : ℕ) → k < group_size → (b : Bool) → eqb k count ≡ b → (mark_at ms (get_or (set g count m) k 0)).code ≡ (mark_at ms i).code
     go_alike k r true p = rw (eqb-true k count p, get_or-set_same g count m 0 low) e
     go_alike k r false p = rw (get_or-set_other g count k m 0 (eqb-false k count p)) (a.alike k r)
-
-pub in_file : {ms : List Mark} {n i : ℕ} {g : List ℕ} → n ≤ file_limits.marks → Grouped ms n i g → InFile g
-in_file h a = record { place = λ k r. le_trans (a.inside k r) h }
 
 -- stores
 pub set-none : {A : Type 0} (g : List ℕ) (f : ℕ → A) (a : List A) → a ≡ set_all 0 g f a
@@ -130,7 +127,7 @@ flagged_all target b g done (suc n) fits old new j e =
     go rest false p = rest (sym (get_or-set_other (set_all n g (λ k. true) done) (get_or g n 0) j true false (eqb-false j (get_or g n 0) p)) ∙ e)
 
 -- the lanes
-module _ (ms : List Mark) (finals : List ℕ) {n i : ℕ} {g p v : List ℕ} {code : Code} (few : n ≤ file_limits.marks) (all : n ≡ length ms) (a : Grouped ms n i g) (is : code ≡ (mark_at ms i).code)
+module _ (ms : List Mark) (finals : List ℕ) {i : ℕ} {g p v : List ℕ} {code : Code} (a : Grouped ms (length ms) i g) (is : code ≡ (mark_at ms i).code)
     (prices : Filled 0 (lane_price ms finals g) lanes p) (values : v ≡ values_or_zero code p) where
   lane_value : (k : ℕ) → k < lanes → get_or v k 0 ≡ value_or_zero code (lane_price ms finals g k)
   unfolding value_or_zero
@@ -149,7 +146,7 @@ module _ (ms : List Mark) (finals : List ℕ) {n i : ℕ} {g p v : List ℕ} {co
 
   pub lanes_right : (k : ℕ) → k < group_size → lanes_change v k ≡ get_or (changes_of ms (last_of finals)) (get_or g k 0) (pos 0)
   unfolding change_of
-  lanes_right k h = by_values ∙ sym (change_at ms (last_of finals) (get_or g k 0) (rw (← all) (a.inside k h)))
+  lanes_right k h = by_values ∙ sym (change_at ms (last_of finals) (get_or g k 0) (a.inside k h))
     where
       by_values : lanes_change v k ≡ change_of ms (last_of finals) (get_or g k 0)
       by_values = rw (lane-last k h, lane_previous k h)
@@ -187,9 +184,8 @@ works_one target {i} {c} {e} {v} h is =
 pub works_done : (target : List ℤ) {i : ℕ} {c : List ℤ} {e : List Bool} → get_or e i false ≡ true → Works target i c e c e
 works_done target {i} q = record { worked = λ w. w; keeps = λ w j r. r; here = λ w. w.flagged i q }
 
--- the loop over the marks at i
+-- the loop over the marks at i: those before it and those past the last mark are right
 pub record Reached (target : List ℤ) (n i : ℕ) (a : List ℤ) (done : List Bool) : Type 0 where
-  pub upto : i ≤ n
   pub worked : Worked target a done
   pub before : (j : ℕ) → j < i → Right target a j
   pub past : (j : ℕ) → n ≤ j → Right target a j
@@ -199,19 +195,17 @@ falses_at zero j = refl
 falses_at (suc n) zero = refl
 falses_at (suc n) (suc j) = falses_at n j
 
-pub reached_none : (ms : List Mark) (final : ℕ → ℕ) {n : ℕ} → n ≡ length ms → Reached (changes_of ms final) n 0 blank (replicate file_limits.marks false)
-reached_none ms final {n} e =
+pub reached_none : (ms : List Mark) (final : ℕ → ℕ) → Reached (changes_of ms final) (length ms) 0 blank (replicate file_limits.marks false)
+reached_none ms final =
     record {
-      upto = omega arith;
       worked = record { size = length-blank; flags = length-replicate file_limits.marks false; flagged = λ j q. absurd (not_both q (falses_at file_limits.marks j)) };
       before = λ j h. absurd (omega arith);
-      past = λ j h. blank-at j ∙ sym (change_past ms final j (rw (← e) h));
+      past = λ j h. blank-at j ∙ sym (change_past ms final j h);
     }
 
-pub reached_more : (target : List ℤ) {n i : ℕ} {a a' : List ℤ} {done done' : List Bool} → i < n → Works target i a done a' done' → Reached target n i a done → Reached target n (i + 1) a' done'
-reached_more target {n} {i} {a} {a'} h s r =
+pub reached_more : (target : List ℤ) {n i : ℕ} {a a' : List ℤ} {done done' : List Bool} → Works target i a done a' done' → Reached target n i a done → Reached target n (i + 1) a' done'
+reached_more target {n} {i} {a} {a'} s r =
     record {
-      upto = omega arith;
       worked = s.worked r.worked;
       before = λ j l. go j l (eqb j i) refl;
       past = λ j l. s.keeps r.worked j (r.past j l);
@@ -221,16 +215,16 @@ reached_more target {n} {i} {a} {a'} h s r =
     go j l true p = rw (eqb-true j i p) (s.here r.worked)
     go j l false p = let d = eqb-false j i p in s.keeps r.worked j (r.before j (omega (arith, l, d)))
 
-pub reached_all : (ms : List Mark) (final : ℕ → ℕ) {n i : ℕ} {a : List ℤ} {done : List Bool}
-    → n ≡ length ms → n ≤ file_limits.marks → n ≤ i → Reached (changes_of ms final) n i a done → a ≡ changes_of ms final
-reached_all ms final {n} {i} {a} e few h r =
-    ext_get_or (pos 0) a (changes_of ms final) (r.worked.size ∙ sym (length_front (change_of ms final) blank (length ms) (rw (length-blank, ← e) few) ∙ length-blank)) (λ j l. go j (ltb j n) refl)
+pub reached_all : (ms : List Mark) (final : ℕ → ℕ) {i : ℕ} {a : List ℤ} {done : List Bool}
+    → length ms ≤ file_limits.marks → length ms ≤ i → Reached (changes_of ms final) (length ms) i a done → a ≡ changes_of ms final
+reached_all ms final {i} {a} few h r =
+    ext_get_or (pos 0) a (changes_of ms final) (r.worked.size ∙ sym (length_front (change_of ms final) blank (length ms) (rw length-blank few) ∙ length-blank)) (λ j l. go j (ltb j (length ms)) refl)
   where
-    go : (j : ℕ) (b : Bool) → ltb j n ≡ b → Right (changes_of ms final) a j
-    go j true p = r.before j (le_trans (ltb-true j n p) h)
-    go j false p = r.past j (ltb-false j n p)
+    go : (j : ℕ) (b : Bool) → ltb j (length ms) ≡ b → Right (changes_of ms final) a j
+    go j true p = r.before j (le_trans (ltb-true j (length ms) p) h)
+    go j false p = r.past j (ltb-false j (length ms) p)
 
 -- by the list of final prices or by the final prices
-pub changes_by : (ms : List Mark) (cs : List Correction) {n : ℕ} {finals : List ℕ} → n ≡ length ms → Filled 0 (final_of ms cs) n finals → changes_of ms (last_of finals) ≡ changes_of ms (final_of ms cs)
+pub changes_by : (ms : List Mark) (cs : List Correction) {finals : List ℕ} → Filled 0 (final_of ms cs) (length ms) finals → changes_of ms (last_of finals) ≡ changes_of ms (final_of ms cs)
 unfolding change_of
-changes_by ms cs {n} {finals} e a = rw (table_same (change_of ms (last_of finals)) (change_of ms (final_of ms cs)) (length ms) (λ i h. rw (a.entry i (rw e h))))
+changes_by ms cs {finals} a = rw (table_same (change_of ms (last_of finals)) (change_of ms (final_of ms cs)) (length ms) (λ i h. rw (a.entry i h)))

@@ -5,9 +5,9 @@ use mathlib.Core.List.{List}
 use Prim.Native.Nat.{ℕ, suc, ◌+◌, ◌≤◌, ◌<◌}
 use native.Mathlib.Numerals.{add-one}
 use native.Mathlib.Omega.{arith}
-use lib.Dec.{leb}
+use lib.Dec.{eqb, leb}
 use lib.ListN.{length, get_or, set, replicate}
-use borrow.Author.Tests.{eq-eqb, ne_eqb, le-leb}
+use borrow.Author.Tests.{eq-eqb, ne_eqb, le-leb, lt-leb, eqb-true, eqb-false}
 use Rattle.numbers.specs.Folds.{Filled}
 use Rattle.dayfile.specs.Limits.{file_limits}
 use Rattle.dayfile.specs.Records.{correction_at}
@@ -78,29 +78,48 @@ module _ (ms : List Mark) (cs : List Correction) (k : ℕ) {n : ℕ} {numbers pr
         price = record { entry = λ m l. s.price.entry m l ∙ ap (λ x. or_today x (today_of ms m)) (other m l) };
       })
 
-  -- a correction of a mark
-  pub standing_more : {c : Correction} {b : Bool} {v w : ℕ} → c ≡ correction_at cs k → c.mark < n → n ≤ length numbers → n ≤ length prices → Standing ms cs n k numbers prices
-      → b ≡ leb (get_or numbers c.mark 0) c.number → v ≡ cond b c.price (get_or prices c.mark 0) → w ≡ cond b c.number (get_or numbers c.mark 0)
-      → Standing ms cs n (k + 1) (set numbers c.mark w) (set prices c.mark v)
-  standing_more {c} {b} {v} {w} e h few-n few-p s p q r =
-      let mark : (correction_at cs k).mark ≡ c.mark = sym (ap (λ (x : Correction). x.mark) e) in
-      let l = highest_of cs c.mark k in
-      let after : highest_of cs c.mark (suc k) ≡ higher_of l c = of_named cs k c.mark mark ∙ ap (higher_of l) (sym e) in
-      let test : b ≡ leb (number_of l) c.number = p ∙ ap (λ x. leb x c.number) (s.number.entry c.mark h) in
-      let number : w ≡ number_at cs (suc k) c.mark =
-      r ∙ ap (λ x. cond b c.number x) (s.number.entry c.mark h) ∙ ap (λ t. cond t c.number (number_of l)) test
-      ∙ sym (higher_number l c) ∙ ap number_of (sym after) in
-      let price : v ≡ price_at ms cs (suc k) c.mark =
-      q ∙ ap (λ x. cond b c.price x) (s.price.entry c.mark h) ∙ ap (λ t. cond t c.price (or_today l (today_of ms c.mark))) test
-      ∙ sym (higher_price l c (today_of ms c.mark)) ∙ ap (λ x. or_today x (today_of ms c.mark)) (sym after) in
-      let other : (m : ℕ) → (m ≡ c.mark → ⊥) → highest_of cs m (suc k) ≡ highest_of cs m k = λ m d. of_other cs k m (λ z. d (sym z ∙ mark)) in
-      rw add-one
-      (record {
-        number = filled-set {g = number_at cs (suc k)} (omega arith) number (λ m d. ap number_of (other m d)) s.number;
-        price = filled-set {g = price_at ms cs (suc k)} (omega arith) price (λ m d. ap (λ x. or_today x (today_of ms m)) (other m d)) s.price;
-      })
+  module _ {c : Correction} (e : c ≡ correction_at cs k) (h : c.mark < n) (s : Standing ms cs n k numbers prices) where
+    highest_other : (m : ℕ) → (m ≡ c.mark → ⊥) → highest_of cs m (suc k) ≡ highest_of cs m k
+    highest_other m d = of_other cs k m (λ z. d (sym z ∙ ap (λ (x : Correction). x.mark) (sym e)))
+
+    highest_here : highest_of cs c.mark (suc k) ≡ higher_of (highest_of cs c.mark k) c
+    highest_here = of_named cs k c.mark (ap (λ (x : Correction). x.mark) (sym e)) ∙ ap (higher_of (highest_of cs c.mark k)) (sym e)
+
+    -- a correction that takes the place of those before it
+    pub standing_taken : n ≤ length numbers → n ≤ length prices → get_or numbers c.mark 0 ≤ c.number
+        → Standing ms cs n (k + 1) (set numbers c.mark c.number) (set prices c.mark c.price)
+    standing_taken few-n few-p up =
+        let l = highest_of cs c.mark k in
+        let test : leb (number_of l) c.number ≡ true = le-leb _ _ (rw (s.number.entry c.mark h) at up) in
+        let number : c.number ≡ number_at cs (suc k) c.mark = rw (highest_here, higher_number l c, test) in
+        let price : c.price ≡ price_at ms cs (suc k) c.mark = rw (highest_here, higher_price l c (today_of ms c.mark), test) in
+        rw add-one
+        (record {
+          number = filled-set {g = number_at cs (suc k)} (omega arith) number (λ m d. ap number_of (highest_other m d)) s.number;
+          price = filled-set {g = price_at ms cs (suc k)} (omega arith) price (λ m d. ap (λ x. or_today x (today_of ms m)) (highest_other m d)) s.price;
+        })
+
+    -- a correction with a lower number
+    pub standing_kept : c.number < get_or numbers c.mark 0 → Standing ms cs n (k + 1) numbers prices
+    standing_kept down =
+        rw add-one
+        (record {
+          number = record { entry = λ m i. s.number.entry m i ∙ sym (number m (eqb m c.mark) refl) };
+          price = record { entry = λ m i. s.price.entry m i ∙ sym (price m (eqb m c.mark) refl) };
+        })
+      where
+        test : leb (number_of (highest_of cs c.mark k)) c.number ≡ false
+        test = lt-leb _ _ (rw (s.number.entry c.mark h) at down)
+
+        number : (m : ℕ) (t : Bool) → eqb m c.mark ≡ t → number_at cs (suc k) m ≡ number_at cs k m
+        number m true q = rw (eqb-true m c.mark q, highest_here, higher_number (highest_of cs c.mark k) c, test)
+        number m false q = ap number_of (highest_other m (eqb-false m c.mark q))
+
+        price : (m : ℕ) (t : Bool) → eqb m c.mark ≡ t → price_at ms cs (suc k) m ≡ price_at ms cs k m
+        price m true q = rw (eqb-true m c.mark q, highest_here, higher_price (highest_of cs c.mark k) c (today_of ms c.mark), test)
+        price m false q = ap (λ x. or_today x (today_of ms m)) (highest_other m (eqb-false m c.mark q))
 
 -- after all corrections the prices are the final ones
-pub standing_final : (ms : List Mark) (cs : List Correction) {n : ℕ} {numbers prices : List ℕ} → Standing ms cs n (length cs) numbers prices → Filled 0 (final_of ms cs) n prices
+pub standing_final : (ms : List Mark) (cs : List Correction) {n k : ℕ} {numbers prices : List ℕ} → Standing ms cs n k numbers prices → k ≡ length cs → Filled 0 (final_of ms cs) n prices
 unfolding final_of
-standing_final ms cs s = record { entry = s.price.entry }
+standing_final ms cs s e = record { entry = rw e at s.price.entry }

@@ -1,4 +1,5 @@
 -- From what a file is judged to be to the plan, and from the plan to the answer and the slice.
+use Rattle.std.proofs.Common.{Result, Err}
 use mathlib.Core.Path.{◌≡◌, refl, sym, ap, ◌∙◌}
 use mathlib.Core.List.{List}
 use Prim.Native.Nat.{ℕ, ◌≤◌, ◌<◌}
@@ -9,25 +10,25 @@ use lib.IntN.{ℤ}
 use Rattle.dayfile.specs.Limits.{Limits, file_limits}
 use Rattle.dayfile.specs.Records.{Lists}
 use Rattle.numbers.specs.Checks.{decision_of}
-use Rattle.numbers.specs.declared.deciding.Decision.{Decision}
-use Rattle.numbers.specs.declared.deciding.Decision.TheVariants.{Met, Unmet}
 use Rattle.dayfile.specs.Layout.{counts_of, lists_in, lists_of_file}
 use Rattle.dayfile.specs.Opening.{header_checks, opened_of}
 use Rattle.dayfile.specs.declared.file.DayFile.{DayFile}
-use Rattle.dayfile.specs.declared.file.Opened.TheVariants as opened
+use Rattle.dayfile.specs.Opening as opened
 use Rattle.dayfile.proofs.Refusals.{refused_decides}
 use Rattle.numbers.proofs.Checks.{decision-before}
 use Rattle.checks.specs.Corrections.{resent_of}
 use Rattle.checks.specs.Judging.{record_checks, file_checks, judged_by, judged_of}
-use Rattle.checks.specs.declared.judging.Judged.{Judged}
-use Rattle.checks.specs.declared.judging.Judged.TheVariants as judged
+use Rattle.checks.specs.Judging.{Judged}
+use Rattle.checks.specs.Judging as judged
 use Rattle.dayfile.proofs.Opening.{laid_out}
 use Rattle.dayfile.proofs.Parts.{lists_within}
 use Rattle.checks.proofs.Passed.{passed_parts}
 use Rattle.settlement.specs.Settling.{settled, refused, said, answer_by, Plan, accept, refuse, room_plan, judged_plan, plan_of, answer_of, amounts_after}
 use Rattle.settlement.specs.SettlingSteps.{ListsPassWith, Settles}
-use Rattle.settlement.specs.declared.settling.Settlement.{Settlement}
-use Rattle.settlement.specs.declared.settling.Settlement.TheVariants.{Refused}
+use Rattle.settlement.specs.declared.settling.Settled.{Settled}
+use Rattle.faults.specs.Faults.{number_of}
+use Rattle.faults.specs.declared.refusal.Refusal.{Refusal}
+use Rattle.numbers.specs.Order.{Decision, Met, Unmet}
 
 pub settled_by : {n n' k k' : ℕ} {x x' y y' : ℤ} → n ≡ n' → x ≡ x' → y ≡ y' → k ≡ k' → settled n x y k ≡ settled n' x' y' k'
 settled_by o p q r = cc
@@ -41,13 +42,13 @@ module _ (ls : Lists) (places : ℕ) where
   plan_accepted h = rw (le-ltb _ _ h)
 
 -- a refusal writes nothing
-pub refuses : {plan : Plan} {k i : ℕ} {a : List ℤ} → plan ≡ refuse k i → Settles plan (Refused k i) a a
+pub refuses : {plan : Plan} {r : Refusal} {a : List ℤ} → plan ≡ refuse (number_of r.fault) r.index → Settles plan (Err r) a a
 refuses e = rw e (record { answer = refl; written = refl })
 
-pub settles_as : {plan other : Plan} {r : Settlement} {a b : List ℤ} → plan ≡ other → Settles other r a b → Settles plan r a b
+pub settles_as : {plan other : Plan} {r : Result Settled Refusal} {a b : List ℤ} → plan ≡ other → Settles other r a b → Settles plan r a b
 settles_as e s = rw e s
 
-pub settles_of : (places : ℕ) {ls ls' : Lists} {r : Settlement} {a b : List ℤ} → ls ≡ ls' → Settles (room_plan ls places) r a b → Settles (room_plan ls' places) r a b
+pub settles_of : (places : ℕ) {ls ls' : Lists} {r : Result Settled Refusal} {a b : List ℤ} → ls ≡ ls' → Settles (room_plan ls places) r a b → Settles (room_plan ls' places) r a b
 settles_of places e s = rw e at s
 
 pub lists_pass_of : {ls ls' : Lists} {r : ℕ} → ls ≡ ls' → ListsPassWith ls' r → ListsPassWith ls r
@@ -78,11 +79,11 @@ refused-answer l f places o = ap answer_by (refused_plan l f places o)
 
 module _ (f : List ℕ) where
   -- the plan carried out is the answer
-  pub answered : (a : List ℤ) {o q : Judged} {r : Settlement} {b : List ℤ} → o ≡ judged_of file_limits f → o ≡ q → Settles (judged_plan f (length a) q) r a b
+  pub answered : (a : List ℤ) {q : Judged} {r : Result Settled Refusal} {b : List ℤ} → q ≡ judged_of file_limits f → Settles (judged_plan f (length a) q) r a b
       → (said r ≡ answer_of file_limits f (length a)) × (b ≡ amounts_after file_limits f a)
   unfolding answer_of amounts_after plan_of
-  answered a e g h =
-      let w = settles_as (ap (judged_plan f (length a)) (sym e ∙ g)) h in
+  answered a e h =
+      let w = settles_as (ap (judged_plan f (length a)) (sym e)) h in
       (w.answer, w.written)
 
   -- the lists of a file that passes
@@ -95,6 +96,6 @@ module _ (f : List ℕ) where
       let (h, passed) = passed_parts file_limits f e in
       rw (← same) (record { lists_pass = record { lists_within = lists_within f (counts_of f) (laid_out f h).counts-within; passed = passed }; counted = sym counted })
 
-  pub passed_lists : {o : Judged} {c : DayFile} {r : ℕ} → o ≡ judged_of file_limits f → o ≡ judged.Passed c r → ListsPassWith (lists_in f c) r
+  pub passed_lists : {c : DayFile} {r : ℕ} → judged.Passed c r ≡ judged_of file_limits f → ListsPassWith (lists_in f c) r
   unfolding judged_of
-  passed_lists p e = passed_lists_by (decision_of (file_checks file_limits f)) refl (sym p ∙ e)
+  passed_lists e = passed_lists_by (decision_of (file_checks file_limits f)) refl (sym e)

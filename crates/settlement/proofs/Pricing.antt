@@ -1,11 +1,10 @@
 -- What settlement knows of the product table and of the pricing part.
+use Rattle.std.proofs.Common.{Option, Some, None}
 use mathlib.Core.Path.{◌≡◌, refl}
 use Prim.Native.Nat.{ℕ, ◌%◌, ◌≤◌}
 use native.Mathlib.Omega.{arith}
 use Rattle.pricing.specs.Calls.{Answer, given, refused, value_of}
 use Rattle.products.specs.Products.{find, price_limit}
-use Rattle.products.specs.declared.table.NamedProduct.{NamedProduct}
-use Rattle.products.specs.declared.table.NamedProduct.TheVariants.{Named, Missing}
 use Rattle.products.specs.declared.table.Code.{Code}
 use Rattle.pricing.proofs.Promises as pricing
 use mathlib.Core.Bool.{true}
@@ -14,6 +13,7 @@ use Rattle.checks.specs.Table.{listed, listed_in, tick_of, tick_in}
 use Rattle.pricing.specs.Calls.{or_zero}
 use Rattle.settlement.specs.ContractValue.{value_or_zero}
 use Rattle.numbers.proofs.Truth.{not_both}
+use Rattle.products.specs.declared.table.Product.{Product}
 
 by_answer : (a : Code) (p : ℕ) (x : Answer) → value_of a p ≡ x → or_zero x ≤ value_cap
 by_answer a p (given n) e = pricing.value_cap_lem a p e
@@ -33,9 +33,9 @@ pub valued : (a : Code) (p : ℕ) → listed a ≡ true → p ≤ price_limit �
 unfolding listed tick_of
 valued a p h low on = by_found (find a) refl h on
   where
-    by_found : (o : NamedProduct) → find a ≡ o → listed_in o ≡ true → p % tick_in o ≡ 0 → (n : ℕ) × (value_of a p ≡ given n)
-    by_found (Named product) e h on = (_, pricing.value_given a e low on)
-    by_found Missing e h on = not_both h refl
+    by_found : (o : Option Product) → find a ≡ o → listed_in o ≡ true → p % tick_in o ≡ 0 → (n : ℕ) × (value_of a p ≡ given n)
+    by_found (Some product) e h on = (_, pricing.value_given a e low on)
+    by_found None e h on = not_both h refl
 
 pub value_or_zero-is : (a : Code) (p : ℕ) {n : ℕ} → value_of a p ≡ given n → value_or_zero a p ≡ n
 unfolding value_or_zero

@@ -1,4 +1,5 @@
 -- A file is turned away exactly by the first check whose condition holds, and accepted where none holds.
+use Rattle.std.proofs.Common.{Some, None}
 use mathlib.Core.Path.{◌≡◌, refl, sym, ap, ◌∙◌}
 use mathlib.Core.Bool.{Bool, true, false, cond}
 use mathlib.Core.List.{List}
@@ -8,11 +9,8 @@ use native.Mathlib.Omega.{arith}
 use lib.Dec.{ltb}
 use lib.IntN.{ℤ}
 use lib.ListN.{length}
-use Rattle.numbers.specs.Order.{pick, or_later}
+use Rattle.numbers.specs.Order.{pick, or_later, Decision, Met, Unmet}
 use Rattle.numbers.specs.Checks.{only, decision_of}
-use Rattle.numbers.specs.declared.Found.TheVariants.{At, Nothing}
-use Rattle.numbers.specs.declared.deciding.Decision.{Decision}
-use Rattle.numbers.specs.declared.deciding.Decision.TheVariants.{Met, Unmet}
 use Rattle.numbers.proofs.Truth.{tells_lt}
 use Rattle.numbers.proofs.Checks.{Agree, agree_before, agree_only, decision-before, decision-only, refuses_exactly, passes_exactly}
 use Rattle.dayfile.specs.Limits.{Limits}
@@ -35,7 +33,7 @@ module _ (l : Limits) (f : List ℕ) (places : ℕ) where
   plan_by (Met k i) = refuse k i
   plan_by Unmet = accept (lists_of_file f)
 
-  by_room : (d : Decision) (t : Bool) → ltb places (length (lists_of_file f).positions) ≡ t → plan_from f places d ≡ plan_by (or_later d (pick (cond t (At 0) Nothing) 14 Unmet))
+  by_room : (d : Decision) (t : Bool) → ltb places (length (lists_of_file f).positions) ≡ t → plan_from f places d ≡ plan_by (or_later d (pick (cond t (Some 0) None) 14 Unmet))
   by_room (Met k i) t e = refl
   by_room Unmet true e = rw e
   by_room Unmet false e = rw e

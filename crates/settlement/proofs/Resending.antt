@@ -10,7 +10,6 @@ use lib.ListN.{length, get_or, take, length-map, get_or-map}
 use Rattle.numbers.specs.Bytes.{u32_at}
 use Rattle.dayfile.specs.Records.{Lists, correction_at, correction_of, marks_in, positions_in}
 use Rattle.numbers.specs.Checks.{decision_of}
-use Rattle.numbers.specs.declared.deciding.Decision.TheVariants.{Unmet}
 use Rattle.checks.specs.Judging.{record_checks}
 use Rattle.dayfile.specs.Limits.{Limits}
 use Rattle.dayfile.specs.Layout.{lists_of_file, counts_of}
@@ -24,6 +23,7 @@ use Rattle.settlement.proofs.FinalPrices.{same_finals}
 use Rattle.settlement.proofs.ResentCount.{same_numbers}
 use Rattle.dayfile.proofs.Opening.{Opens}
 use Rattle.settlement.proofs.Accepted.{AcceptedFile, accepted_plan, settled_accepted}
+use Rattle.numbers.specs.Order.{Unmet}
 
 -- ---- "sent again": the same records, and so the same corrections
 

@@ -18,7 +18,7 @@ use Rattle.settlement.specs.Settling.{settled, answer_of}
 use Rattle.settlement.specs.Resend.{SentAgain, correction_records, Resent}
 use Rattle.dayfile.specs.Making.{counts_in, made_of}
 use Rattle.dayfile.specs.declared.file.DayFile.{DayFile}
-use Rattle.dayfile.specs.declared.file.Opened.TheVariants.{File}
+use Rattle.dayfile.specs.Opening.{File}
 use Rattle.numbers.proofs.Sections.{size_is}
 use Rattle.dayfile.proofs.Parts.{corrections_sized}
 use Rattle.settlement.proofs.Resending.{sent_within, sent_length}

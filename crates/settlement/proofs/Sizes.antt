@@ -6,19 +6,18 @@ use native.Mathlib.Nat.{mul-le-mul}
 use native.Mathlib.Omega.{arith}
 use lib.ListN.{length}
 use mir.Syntax.{w64}
-use mir.Val.{SFits, to_z, of_z}
-use mir.ValLaws.{to_z-of_z}
-use lib.IntN.{ℤ, nat_abs, ◌+ℤ◌, ◌*ℤ◌}
+use mir.Val.{to_z, of_z}
+use lib.IntN.{ℤ, nat_abs, ◌*ℤ◌}
 use Rattle.products.specs.declared.table.Currency.{Currency}
 use Rattle.products.specs.declared.table.Currency.TheVariants.{Aud, Nzd}
-use Rattle.dayfile.specs.Limits.{lots_limit, file_limits}
+use Rattle.dayfile.specs.Limits.{lots_limit}
 use Rattle.numbers.specs.Folds.{sum}
 use Rattle.dayfile.specs.Records.{position_at}
 use Rattle.settlement.specs.Settling.{amount_of, keep_of}
-use Rattle.settlement.specs.SettlingSteps.{Payable, Bounded, Addable, amount_cap, change_cap}
+use Rattle.settlement.specs.SettlingSteps.{Payable, Bounded, amount_cap, change_cap}
 use Rattle.numbers.specs.Integers.{entry_of}
 use Rattle.dayfile.specs.declared.records.Position.{Position}
-use Rattle.numbers.proofs.Signed.{size-sum, size_mul, fits, back_small}
+use Rattle.numbers.proofs.Signed.{size-sum, size_mul, back_small}
 
 -- a product of bounded numbers
 pub product_small : (x y : ℤ) → nat_abs x ≤ lots_limit → nat_abs y ≤ change_cap → nat_abs (x *ℤ y) ≤ amount_cap
@@ -26,23 +25,6 @@ product_small x y h k = rw (size_mul x y) (mul-le-mul h k)
 
 pub small_as : {x y : ℤ} → x ≡ y → nat_abs y ≤ amount_cap → nat_abs x ≤ amount_cap
 small_as e h = rw e h
-
--- a sum and an amount more, as an i64 adds them
-module _ {s x : ℤ} (h : Addable s x) where
-  s_back : to_z w64 (of_z w64 s) ≡ s
-  s_back = back_small s (omega arith)
-
-  x_back : to_z w64 (of_z w64 x) ≡ x
-  x_back = back_small x (omega arith)
-
-  pub sum_fits : SFits w64 (to_z w64 (of_z w64 s) +ℤ to_z w64 (of_z w64 x))
-  sum_fits = rw (s_back, x_back) (fits _ (omega (arith, size-sum s x)))
-
-  pub sum_gives : to_z w64 (of_z w64 (to_z w64 (of_z w64 s) +ℤ to_z w64 (of_z w64 x))) ≡ s +ℤ x
-  sum_gives = to_z-of_z w64 _ sum_fits ∙ rw (s_back, x_back)
-
-pub addable_as : {s x y : ℤ} → y ≡ x → Addable s x → Addable s y
-addable_as e h = rw e h
 
 -- a sum of n bounded numbers
 pub sum-small : (f : ℕ → ℤ) (n : ℕ) → ((i : ℕ) → i < n → nat_abs (f i) ≤ amount_cap) → nat_abs (sum f n) ≤ n * amount_cap
@@ -67,12 +49,6 @@ module _ (ps : List Position) (a : List ℤ) (pay : Payable ps) (bound : Bounded
 
     entry_back : to_z w64 (of_z w64 (entry_of a p.mark)) ≡ entry_of a p.mark
     entry_back = back_small _ (omega (arith, bound.entries p.mark))
-
-    pub mark_fits : p.mark < file_limits.marks
-    mark_fits = rw q (pay.mark i h)
-
-    pub amount_asks : (nat_abs (to_z w64 (of_z w64 p.lots)) ≤ lots_limit) × (nat_abs (to_z w64 (of_z w64 (entry_of a p.mark))) ≤ change_cap)
-    amount_asks = (rw lots_back (rw q (pay.lots i h)), rw entry_back (bound.entries p.mark))
 
     pub amount_gives : {r : ℤ} → r ≡ to_z w64 (of_z w64 p.lots) *ℤ to_z w64 (of_z w64 (entry_of a p.mark)) → r ≡ amount_of ps (entry_of a) i
     unfolding amount_of

@@ -10,7 +10,6 @@ use Rattle.pricing.specs.Calls.{given, value_of}
 use Rattle.dayfile.specs.Records.{Lists, mark_at, correction_at, position_at}
 use Rattle.checks.specs.Table.{above_limit, listed, tick_of}
 use Rattle.numbers.specs.Checks.{decision_of}
-use Rattle.numbers.specs.declared.deciding.Decision.TheVariants.{Unmet}
 use Rattle.checks.specs.Marks.{off_tick, MarkCode, MarkLimit, MarkTick}
 use Rattle.checks.specs.Corrections.{CorrectionPrice}
 use Rattle.checks.specs.Judging.{record_checks}
@@ -21,6 +20,7 @@ use Rattle.numbers.proofs.Searches.{or_none}
 use Rattle.checks.proofs.Passed.{mark_passes, correction_passes, mark_in_lem}
 use Rattle.settlement.proofs.FinalPrices.{final_price-is}
 use Rattle.settlement.proofs.Pricing.{valued, value_or_zero-is}
+use Rattle.numbers.specs.Order.{Unmet}
 
 -- a price that passes 6 and 7 for a mark
 record Allowed (m : Mark) (p : ℕ) : Type 0 where

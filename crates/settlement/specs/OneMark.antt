@@ -1,18 +1,18 @@
 -- What is said of one mark of a file: its two settlement prices, the correction that decides, and its change in value.
-use Rattle.std.specs.Prelude.{Bool, true, false, cond, List, ℕ, ℤ, length}
+use Rattle.std.specs.Prelude.{Result, Ok, Err, Option, Some, None, cond, List, ℕ, ℤ, length}
 use Rattle.dayfile.specs.Limits.{Limits}
 use Rattle.dayfile.specs.Records.{mark_at}
 use Rattle.dayfile.specs.Layout.{lists_in}
 use Rattle.checks.specs.Marks.{no_mark}
 use Rattle.checks.specs.Judging.{judged_of}
-use Rattle.checks.specs.declared.judging.Judged.{Judged}
-use Rattle.checks.specs.declared.judging.Judged.TheVariants as judged
+use Rattle.checks.specs.Judging.{Judged}
+use Rattle.checks.specs.Judging as judged
 use Rattle.dayfile.specs.declared.records.Mark.{Mark}
 use Rattle.dayfile.specs.declared.records.Correction.{Correction}
-use Rattle.settlement.specs.Prices.{Highest, NoneYet, Numbered, highest_of, final_of, change_of}
+use Rattle.faults.specs.Faults.{number_of}
+use Rattle.faults.specs.declared.refusal.Refusal.{Refusal}
 use Rattle.settlement.specs.declared.one_mark.MarkPrices.{MarkPrices}
-use Rattle.settlement.specs.declared.one_mark.MarkPrices.TheVariants as code
-use Rattle.settlement.specs.declared.one_mark.Deciding.{Deciding}
+use Rattle.settlement.specs.Prices.{Highest, NoneYet, Numbered, highest_of, final_of, change_of}
 
 -- the previous price, the final price, the correction that decides it, and the change in value of one contract;
 -- or a check's number and an index
@@ -21,14 +21,14 @@ pub data MarkAnswer : Type 0 where
   refused : ℕ → ℕ → MarkAnswer
 
 -- a correction's number and price, where there is one
-abbrev pub highest_by : Bool → ℕ → ℕ → Highest
-highest_by true number price = Numbered number price
-highest_by false number price = NoneYet
+abbrev pub highest_by : Option ℕ → ℕ → Highest
+highest_by (Some number) price = Numbered number price
+highest_by None price = NoneYet
 
 -- what an answer of the code says: the price of the correction that decides is the final one
-abbrev pub said : MarkPrices → MarkAnswer
-said (code.Priced previous last corrected number change) = priced previous last (highest_by corrected number last) change
-said (code.Refused k i) = refused k i
+abbrev pub said : Result MarkPrices Refusal → MarkAnswer
+said (Ok p) = priced p.previous p.last (highest_by p.corrected_by p.last) p.change
+said (Err r) = refused (number_of r.fault) r.index
 
 -- of marks and corrections that passed
 abbrev pub priced_mark : List Mark → List Correction → ℕ → MarkAnswer
@@ -47,5 +47,6 @@ unfoldable pub mark_answer_of : Limits → List ℕ → ℕ → MarkAnswer
 mark_answer_of l f m = mark_answer_by f m (judged_of l f)
 
 -- the correction of a mark that decides so far, as the code has it
-abbrev pub highest_in : Deciding → Highest
-highest_in d = highest_by d.corrected d.number d.price
+abbrev pub highest_in : Option Correction → Highest
+highest_in (Some c) = Numbered c.number c.price
+highest_in None = NoneYet

@@ -1,5 +1,5 @@
 -- The settlement of a day file.
-use Rattle.std.specs.Prelude.{ℕ, cond, List, eqb, ℤ, pos, ◌*ℤ◌, length}
+use Rattle.std.specs.Prelude.{Result, Ok, Err, ℕ, cond, List, eqb, ℤ, pos, ◌*ℤ◌, length}
 use Rattle.products.specs.declared.table.Currency.{Currency}
 use Rattle.products.specs.declared.table.Currency.TheVariants.{Aud, Nzd}
 use Rattle.products.specs.Products.{currency_of}
@@ -8,15 +8,16 @@ use Rattle.dayfile.specs.Limits.{Limits}
 use Rattle.dayfile.specs.Records.{Lists, mark_at, position_at}
 use Rattle.checks.specs.Corrections.{resent_of}
 use Rattle.checks.specs.Judging.{judged_of}
-use Rattle.checks.specs.declared.judging.Judged.{Judged}
-use Rattle.checks.specs.declared.judging.Judged.TheVariants as judged
+use Rattle.checks.specs.Judging.{Judged}
+use Rattle.checks.specs.Judging as judged
 use Rattle.dayfile.specs.Layout.{lists_in, lists_of_file}
 use Rattle.settlement.specs.Conditions.{room_check}
+use Rattle.faults.specs.Faults.{number_of}
+use Rattle.faults.specs.declared.refusal.Refusal.{Refusal}
+use Rattle.settlement.specs.declared.settling.Settled.{Settled}
 use Rattle.settlement.specs.Prices.{final_of, change_of}
 use Rattle.dayfile.specs.declared.records.Mark.{Mark}
 use Rattle.dayfile.specs.declared.records.Position.{Position}
-use Rattle.settlement.specs.declared.settling.Settlement.{Settlement}
-use Rattle.settlement.specs.declared.settling.Settlement.TheVariants.{Settled, Refused}
 
 -- x where a currency is the wanted one, else 0
 abbrev pub keep_of : Currency → Currency → ℤ → ℤ
@@ -70,9 +71,9 @@ pub data Answer : Type 0 where
   refused : ℕ → ℕ → Answer
 
 -- what an answer of the code says
-abbrev pub said : Settlement → Answer
-said (Settled n aud nzd k) = settled n aud.0 nzd.0 k
-said (Refused k i) = refused k i
+abbrev pub said : Result Settled Refusal → Answer
+said (Ok s) = settled s.positions s.aud.0 s.nzd.0 s.resent
+said (Err r) = refused (number_of r.fault) r.index
 
 -- the amounts of three lists that pass, in the first places of the slice
 abbrev pub paid : Lists → List ℤ → List ℤ

@@ -1,5 +1,5 @@
 -- What the steps of the settlement ask of each other and give: arrays, sizes, and what was checked before.
-use Rattle.std.specs.Prelude.{◌≡◌, ℕ, ◌*◌, ◌≤◌, ◌<◌, List, ℤ, pos, nat_abs, ◌+ℤ◌, Bool, true, false, length, get_or, replicate}
+use Rattle.std.specs.Prelude.{Result, ◌≡◌, ℕ, ◌*◌, ◌≤◌, ◌<◌, List, ℤ, pos, nat_abs, ◌+ℤ◌, length, get_or, replicate}
 use Rattle.products.specs.declared.table.Currency.{Currency}
 use Rattle.products.specs.declared.table.Currency.TheVariants.{Aud, Nzd}
 use Rattle.numbers.specs.Folds.{front, sum}
@@ -8,7 +8,6 @@ use Rattle.dayfile.specs.Limits.{file_limits, lots_limit}
 use Rattle.dayfile.specs.Records.{Lists, mark_at, position_at}
 use Rattle.products.specs.Products.{currency_of}
 use Rattle.numbers.specs.Checks.{decision_of}
-use Rattle.numbers.specs.declared.deciding.Decision.TheVariants.{Unmet}
 use Rattle.checks.specs.Corrections.{resent_of}
 use Rattle.checks.specs.Judging.{record_checks}
 use Rattle.dayfile.specs.WithinLimits.{ListsWithinLimits}
@@ -17,7 +16,9 @@ use Rattle.settlement.specs.Settling.{keep_of, amount_of, sum_of_amounts, said, 
 use Rattle.dayfile.specs.declared.records.Mark.{Mark}
 use Rattle.dayfile.specs.declared.records.Position.{Position}
 use Rattle.settlement.specs.declared.amounts.Sums.{Sums}
-use Rattle.settlement.specs.declared.settling.Settlement.{Settlement}
+use Rattle.settlement.specs.declared.settling.Settled.{Settled}
+use Rattle.faults.specs.declared.refusal.Refusal.{Refusal}
+use Rattle.numbers.specs.Order.{Unmet}
 
 -- no change in value is larger
 abbrev pub change_cap : ℕ
@@ -67,18 +68,9 @@ pub record Named (ms : List Mark) (ps : List Position) : Type 0 where
 pub record Bounded (a : List ℤ) : Type 0 where
   pub entries : (m : ℕ) → nat_abs (get_or a m (pos 0)) ≤ change_cap
 
-abbrev pub is_nzd : Currency → Bool
-is_nzd Aud = false
-is_nzd Nzd = true
-
--- a mark is in New Zealand dollars
-abbrev pub nzd_at : List Mark → ℕ → Bool
-nzd_at ms m = is_nzd (currency_of (mark_at ms m).code)
-
--- the currency that the answer to `is_nzd` stands for
-abbrev pub currency_by : Bool → Currency
-currency_by true = Nzd
-currency_by false = Aud
+-- a mark's currency
+abbrev pub currency_at : List Mark → ℕ → Currency
+currency_at ms m = currency_of (mark_at ms m).code
 
 -- a sum to which an amount may be added
 pub record Addable (s x : ℤ) : Type 0 where
@@ -86,19 +78,19 @@ pub record Addable (s x : ℤ) : Type 0 where
   pub amount : nat_abs x ≤ amount_cap
 
 -- an amount more in one of two sums
-pub record Adds (b : Bool) (x : ℤ) (s r : Sums) : Type 0 where
-  pub aud : r.aud.0 ≡ s.aud.0 +ℤ keep_of Aud (currency_by b) x
-  pub nzd : r.nzd.0 ≡ s.nzd.0 +ℤ keep_of Nzd (currency_by b) x
+pub record Adds (c : Currency) (x : ℤ) (s r : Sums) : Type 0 where
+  pub aud : r.aud.0 ≡ s.aud.0 +ℤ keep_of Aud c x
+  pub nzd : r.nzd.0 ≡ s.nzd.0 +ℤ keep_of Nzd c x
 
--- a position's amount, if its currency is the wanted one; an array says which marks are in New Zealand dollars
-unfoldable pub flagged_share : List Position → List ℤ → List Bool → Currency → ℕ → ℤ
-flagged_share ps a nzd wanted i = keep_of wanted (currency_by (get_or nzd (position_at ps i).mark false)) (amount_of ps (entry_of a) i)
+-- a position's amount, if its currency is the wanted one; an array says each mark's currency
+unfoldable pub share_by : List Position → List ℤ → List Currency → Currency → ℕ → ℤ
+share_by ps a currencies wanted i = keep_of wanted (get_or currencies (position_at ps i).mark Aud) (amount_of ps (entry_of a) i)
 
 -- the amounts in the first places of a slice, and the sum of each currency's by that array
-pub record PaysFlagged (ps : List Position) (a : List ℤ) (flags : List Bool) (r : Sums) (before after : List ℤ) : Type 0 where
+pub record PaysBy (ps : List Position) (a : List ℤ) (currencies : List Currency) (r : Sums) (before after : List ℤ) : Type 0 where
   pub written : after ≡ front (amount_of ps (entry_of a)) before (length ps)
-  pub aud : r.aud.0 ≡ sum (flagged_share ps a flags Aud) (length ps)
-  pub nzd : r.nzd.0 ≡ sum (flagged_share ps a flags Nzd) (length ps)
+  pub aud : r.aud.0 ≡ sum (share_by ps a currencies Aud) (length ps)
+  pub nzd : r.nzd.0 ≡ sum (share_by ps a currencies Nzd) (length ps)
 
 -- the amounts in the first places of a slice, and the sum of each currency's
 pub record Pays (ms : List Mark) (ps : List Position) (a : List ℤ) (r : Sums) (before after : List ℤ) : Type 0 where
@@ -107,6 +99,6 @@ pub record Pays (ms : List Mark) (ps : List Position) (a : List ℤ) (r : Sums) 
   pub nzd : r.nzd.0 ≡ sum_of_amounts ms ps (entry_of a) Nzd
 
 -- an answer and a slice that are what a plan says, of the slice before
-pub record Settles (plan : Plan) (r : Settlement) (before after : List ℤ) : Type 0 where
+pub record Settles (plan : Plan) (r : Result Settled Refusal) (before after : List ℤ) : Type 0 where
   pub answer : said r ≡ answer_by plan
   pub written : after ≡ paid_by plan before

@@ -1,54 +1,34 @@
 // Money in the cents of its own currency. The numbers are seen only here, so that no cents of one currency are added to the other's.
-ghost use Rattle.std.specs.Prelude.{◌≡◌, ◌+ℤ◌};
+ghost use Rattle.std.specs.Prelude.{◌≡◌, ◌+ℤ◌, pos};
 ghost use Rattle.settlement.specs.SettlingSteps.{Addable};
 
-// A number of Australian cents.
-#[derive(Clone, Copy)]
-pub struct AudCents(i64);
+use std::marker::PhantomData;
 
-// A number of New Zealand cents.
-#[derive(Clone, Copy)]
-pub struct NzdCents(i64);
+// Australian dollars.
+#[derive(Clone, Copy, Debug, PartialEq, Eq)]
+pub struct Aud;
 
-impl AudCents {
-    pub(crate) const ZERO: AudCents = AudCents(0);
+// New Zealand dollars.
+#[derive(Clone, Copy, Debug, PartialEq, Eq)]
+pub struct Nzd;
 
-    pub(crate) fn of(amount: i64) -> AudCents
+// A number of cents of a currency.
+#[derive(Clone, Copy, Debug, PartialEq, Eq)]
+pub struct Cents<C>(i64, PhantomData<C>);
+
+impl<C> Cents<C> {
+    pub(crate) fn of(amount: i64) -> Cents<C>
         ensures { result.0 ≡ amount }
     {
-        AudCents(amount)
+        Cents(amount, PhantomData)
     }
 
     // A sum and one amount more.
-    pub(crate) fn plus(self, amount: AudCents) -> AudCents
+    pub(crate) fn plus(self, amount: Cents<C>) -> Cents<C>
         requires { Addable self.0 amount.0 }
         ensures { result.0 ≡ self.0 +ℤ amount.0 }
     {
-        AudCents(self.0 + amount.0)
-    }
-
-    pub fn cents(self) -> i64
-        ensures { result ≡ self.0 }
-    {
-        self.0
-    }
-}
-
-impl NzdCents {
-    pub(crate) const ZERO: NzdCents = NzdCents(0);
-
-    pub(crate) fn of(amount: i64) -> NzdCents
-        ensures { result.0 ≡ amount }
-    {
-        NzdCents(amount)
-    }
-
-    // A sum and one amount more.
-    pub(crate) fn plus(self, amount: NzdCents) -> NzdCents
-        requires { Addable self.0 amount.0 }
-        ensures { result.0 ≡ self.0 +ℤ amount.0 }
-    {
-        NzdCents(self.0 + amount.0)
+        Cents(self.0 + amount.0, PhantomData)
     }
 
     pub fn cents(self) -> i64

@@ -1,9 +1,9 @@
 // The changes in value of the marks. A bond's value is a long chain of multiplications, so that several run side by side sooner than one
 // after the other: a bond's mark is valued together with later ones of its product.
-ghost use Rattle.std.specs.Prelude.{◌≡◌, true, ◌<◌, ◌≤◌, pos, ◌-ℤ◌, length};
+ghost use Rattle.std.specs.Prelude.{◌≡◌, true, false, ◌<◌, ◌≤◌, pos, ◌-ℤ◌, length, replicate};
 ghost use Rattle.numbers.specs.Folds.{Filled};
 ghost use Rattle.dayfile.specs.Limits.{file_limits};
-ghost use Rattle.dayfile.specs.Records.{marks_in, corrections_in, mark_at};
+ghost use Rattle.dayfile.specs.Records.{marks_in, corrections_in};
 ghost use Rattle.pricing.specs.Sizes.{value_cap};
 ghost use Rattle.pricing.specs.Calls.{lanes};
 ghost use Rattle.settlement.specs.ContractValue.{value_or_zero};
@@ -12,11 +12,13 @@ ghost use Rattle.settlement.specs.SettlingSteps.{blank, changes_of};
 ghost use Rattle.settlement.specs.Groups.{group_size, alike_in, Grouped, InFile, Capped, last_of, lane_price, lanes_change, set_all, Works};
 
 use crate::prices::finals;
+use checks::Marks;
 use dayfile::{DayFile, mark_at, mark_count};
 use pricing::{LANES, value_or_zero, values_or_zero};
 use products::{Code, is_bond, same_code};
+use std::array::from_fn;
 
-// The difference of two values.
+// The difference of two values. (`as`: values are proved to fit, and `try_from` would test it again.)
 fn difference(a: u64, b: u64) -> i64
     requires { (a ≤ value_cap) × (b ≤ value_cap) }
     ensures { result ≡ pos a -ℤ pos b }
@@ -34,111 +36,32 @@ fn alike(marks: &[u8], i: usize, j: usize) -> bool
     same_code(mark_at(marks, i).code, mark_at(marks, j).code)
 }
 
-// The mark j where it joins the group of the mark i, else i.
-fn joined(marks: &[u8], done: &[bool; DayFile::MAX_MARKS], i: usize, j: usize) -> usize
-    requires { (i < j) × (j < file_limits.marks) }
-    ensures { (result ≤ j) × ((mark_at (marks_in marks.now) result).code ≡ (mark_at (marks_in marks.now) i).code) }
-{
-    if done[j] {
-        return i;
-    }
-    if alike(marks, j, i) {
-        return j;
-    }
-    i
+// Marks that are valued side by side.
+#[derive(Clone, Copy)]
+struct Group {
+    marks: [usize; GROUP],
+    ghost in_file: { InFile marks },
 }
 
-// One place more is taken, unless by the mark i itself.
-fn one_more_unless(count: usize, i: usize, m: usize) -> usize
-    requires { (1 ≤ count) × (count < group_size) }
-    ensures { (1 ≤ result) × (result ≤ group_size) }
-{
-    if m == i { count } else { count + 1 }
-}
-
-// A mark and up to three later ones of its product that are not worked yet. The mark itself stands in the places that are left.
-fn group(marks: &[u8], done: &[bool; DayFile::MAX_MARKS], n: usize, i: usize) -> [usize; GROUP]
-    requires { (i < n) × (n ≤ file_limits.marks) }
-    ensures { Grouped (marks_in marks.now) n i result }
-{
-    let mut g = [i; GROUP];
-    let mut count = 1;
-    let mut j = i + 1;
-    while j < n {
-        if GROUP <= count {
-            return g;
+impl Group {
+    // A mark and up to three later ones of its product that are not worked yet. The mark itself stands in the places that are left.
+    fn of(marks: Marks<'_>, done: &[bool; DayFile::MAX_MARKS], i: usize) -> Group
+        requires { i < length (marks_in marks.bytes.now) }
+        ensures { Grouped (marks_in marks.entry.bytes.now) (length (marks_in marks.entry.bytes.now)) i result.marks }
+    {
+        let mut g = [i; GROUP];
+        let mut count = 1;
+        for j in i + 1..mark_count(marks.bytes) {
+            if count == GROUP {
+                break;
+            }
+            if !done[j] && alike(marks.bytes, j, i) {
+                g[count] = j;
+                count += 1;
+            }
         }
-        let m = joined(marks, done, i, j);
-        g[count] = m;
-        count = one_more_unless(count, i, m);
-        j += 1;
+        Group { marks: g }
     }
-    g
-}
-
-// The price of a lane: the final prices of a group's marks, then their previous ones.
-fn lane_price(marks: &[u8], finals: &[u32; DayFile::MAX_MARKS], g: [usize; GROUP], k: usize) -> u32
-    requires { (k < lanes) × InFile g }
-    ensures { result ≡ lane_price (marks_in marks.now) finals.now g k }
-{
-    if k < GROUP {
-        let m = g[k];
-        return finals[m];
-    }
-    mark_at(marks, g[k - GROUP]).previous
-}
-
-// The prices of all lanes.
-fn lane_prices(marks: &[u8], finals: &[u32; DayFile::MAX_MARKS], g: [usize; GROUP]) -> [u32; LANES]
-    requires { InFile g }
-    ensures { Filled 0 (lane_price (marks_in marks.now) finals.now g) lanes result }
-{
-    let mut p = [0; LANES];
-    let mut k = 0;
-    while k < LANES {
-        p[k] = lane_price(marks, finals, g, k);
-        k += 1;
-    }
-    p
-}
-
-// Writes the changes of a group.
-fn write_group(
-    g: [usize; GROUP],
-    v: [u64; LANES],
-    a: &mut [i64; DayFile::MAX_MARKS],
-    done: &mut [bool; DayFile::MAX_MARKS],
-)
-    requires { InFile g × Capped v }
-    ensures changes { a.new ≡ set_all group_size g (lanes_change v) a.old }
-    ensures flags { done.new ≡ set_all group_size g (λ k. true) done.old }
-{
-    let mut k = 0;
-    while k < GROUP {
-        let m = g[k];
-        a[m] = difference(v[k], v[k + GROUP]);
-        done[m] = true;
-        k += 1;
-    }
-}
-
-// Works the changes of a mark and of those that go with it.
-fn work_group(
-    marks: &[u8],
-    finals: &[u32; DayFile::MAX_MARKS],
-    n: usize,
-    i: usize,
-    g: [usize; GROUP],
-    a: &mut [i64; DayFile::MAX_MARKS],
-    done: &mut [bool; DayFile::MAX_MARKS],
-)
-    requires { ((i < n) × (n ≤ file_limits.marks)) × (n ≡ length (marks_in marks.now)) × Grouped (marks_in marks.now) n i g }
-    ensures { Works (changes_of (marks_in marks.now) (last_of finals.now))
-        i a.old done.old a.new done.new }
-{
-    let p = lane_prices(marks, finals, g);
-    let v = values_or_zero(mark_at(marks, i).code, p);
-    write_group(g, v, a, done);
 }
 
 // The change in value of one contract between two prices. (`change` has the same two calls for itself, so that the compiler takes
@@ -149,56 +72,117 @@ pub(crate) fn change_between(code: Code, last: u32, previous: u32) -> i64
     difference(value_or_zero(code, last), value_or_zero(code, previous))
 }
 
-// The change in value of one mark.
-fn change(marks: &[u8], finals: &[u32; DayFile::MAX_MARKS], i: usize) -> i64
-    requires { i < file_limits.marks }
-    ensures { result ≡ change_of (marks_in marks.now) (last_of finals.now) i }
-{
-    let m = mark_at(marks, i);
-    let last = value_or_zero(m.code, finals[i]);
-    let previous = value_or_zero(m.code, m.previous);
-    difference(last, previous)
+// The marks, and the final price of each.
+#[derive(Clone, Copy)]
+struct FinalPrices<'a> {
+    marks: Marks<'a>,
+    last: &'a [u32; DayFile::MAX_MARKS],
 }
 
-// Works the change of a mark that is not done, a bond with others of its product if there are any.
-fn work(
-    marks: &[u8],
-    finals: &[u32; DayFile::MAX_MARKS],
-    n: usize,
-    i: usize,
-    a: &mut [i64; DayFile::MAX_MARKS],
-    done: &mut [bool; DayFile::MAX_MARKS],
-)
-    requires { ((i < n) × (n ≤ file_limits.marks)) × (n ≡ length (marks_in marks.now)) }
-    ensures { Works (changes_of (marks_in marks.now) (last_of finals.now))
-        i a.old done.old a.new done.new }
-{
-    if done[i] {
-        return;
-    }
-    if is_bond(mark_at(marks, i).code) {
-        let g = group(marks, done, n, i);
-        if g[1] != i {
-            work_group(marks, finals, n, i, g, a, done);
-            return;
+impl FinalPrices<'_> {
+    // The price of a lane: the final prices of a group's marks, then their previous ones.
+    fn lane_price(self, g: Group, k: usize) -> u32
+        requires { k < lanes }
+        ensures { result ≡ lane_price (marks_in self.entry.marks.bytes.now) self.entry.last.now g.marks k }
+    {
+        if k < GROUP {
+            self.last[g.marks[k]]
+        } else {
+            mark_at(self.marks.bytes, g.marks[k - GROUP]).previous
         }
     }
-    a[i] = change(marks, finals, i);
+
+    // The prices of all lanes.
+    fn lane_prices(self, g: Group) -> [u32; LANES]
+        ensures { Filled 0 (lane_price (marks_in self.entry.marks.bytes.now) self.entry.last.now g.marks) lanes result }
+    {
+        from_fn(|k| self.lane_price(g, k))
+    }
+
+    // The change in value of one mark.
+    fn change(self, i: usize) -> i64
+        requires { i < file_limits.marks }
+        ensures { result ≡ change_of (marks_in self.entry.marks.bytes.now) (last_of self.entry.last.now) i }
+    {
+        let m = mark_at(self.marks.bytes, i);
+        let last = value_or_zero(m.code, self.last[i]);
+        let previous = value_or_zero(m.code, m.previous);
+        difference(last, previous)
+    }
 }
 
-// Writes the changes in value of all marks.
-pub(crate) fn changes(marks: &[u8], corrections: &[u8], a: &mut [i64; DayFile::MAX_MARKS])
-    requires { (length (marks_in marks.now) ≤ file_limits.marks) × (a.old ≡ blank) }
-    ensures { a.new ≡ changes_of (marks_in marks.now)
-        (final_of (marks_in marks.now) (corrections_in corrections.now)) }
-{
-    let n = mark_count(marks);
-    let mut last = [0u32; DayFile::MAX_MARKS];
-    finals(marks, corrections, n, &mut last);
-    let mut done = [false; DayFile::MAX_MARKS];
-    let mut i = 0;
-    while i < n {
-        work(marks, &last, n, i, a, &mut done);
-        i += 1;
+// The changes in value of the marks, as far as they are worked, and which of them are done.
+#[derive(Clone, Copy, Debug)]
+pub(crate) struct Changes {
+    pub change: [i64; DayFile::MAX_MARKS],
+    done: [bool; DayFile::MAX_MARKS],
+}
+
+impl Changes {
+    // Writes the changes of a group.
+    fn write_group(&mut self, g: Group, v: [u64; LANES])
+        requires { Capped v }
+        ensures changes { self.new.change ≡ set_all group_size g.marks (lanes_change v) self.old.change }
+        ensures flags { self.new.done ≡ set_all group_size g.marks (λ k. true) self.old.done }
+    {
+        for k in 0..GROUP {
+            let m = g.marks[k];
+            self.change[m] = difference(v[k], v[k + GROUP]);
+            self.done[m] = true;
+        }
+    }
+
+    // Works the changes of a mark and of those that go with it.
+    fn work_group(&mut self, prices: FinalPrices<'_>, i: usize, g: Group)
+        requires { Grouped (marks_in prices.marks.bytes.now) (length (marks_in prices.marks.bytes.now)) i g.marks }
+        ensures { Works (changes_of (marks_in prices.entry.marks.bytes.now) (last_of prices.entry.last.now)) i
+            self.old.change self.old.done self.new.change self.new.done }
+    {
+        let p = prices.lane_prices(g);
+        let v = values_or_zero(mark_at(prices.marks.bytes, i).code, p);
+        self.write_group(g, v);
+    }
+
+    // Works the change of a mark that is not done, a bond with others of its product if there are any.
+    fn work(&mut self, prices: FinalPrices<'_>, i: usize)
+        requires { i < length (marks_in prices.marks.bytes.now) }
+        ensures { Works (changes_of (marks_in prices.entry.marks.bytes.now) (last_of prices.entry.last.now)) i
+            self.old.change self.old.done self.new.change self.new.done }
+    {
+        if self.done[i] {
+            return;
+        }
+        if is_bond(mark_at(prices.marks.bytes, i).code) {
+            let g = Group::of(prices.marks, &self.done, i);
+            if g.marks[1] != i {
+                self.work_group(prices, i, g);
+                return;
+            }
+        }
+        self.change[i] = prices.change(i);
+    }
+
+    // No change yet, and no mark that is done.
+    pub(crate) fn none() -> Changes
+        ensures { (result.change ≡ blank) × (result.done ≡ replicate file_limits.marks false) }
+    {
+        Changes {
+            change: [0; DayFile::MAX_MARKS],
+            done: [false; DayFile::MAX_MARKS],
+        }
+    }
+
+    // Works the changes in value of all marks.
+    pub(crate) fn work_all(&mut self, marks: Marks<'_>, corrections: &[u8])
+        requires { (self.old.change ≡ blank) × (self.old.done ≡ replicate file_limits.marks false) }
+        ensures { self.new.change ≡ changes_of (marks_in marks.entry.bytes.now)
+            (final_of (marks_in marks.entry.bytes.now) (corrections_in corrections.now)) }
+    {
+        let mut last = [0; DayFile::MAX_MARKS];
+        finals(marks, corrections, &mut last);
+        let prices = FinalPrices { marks, last: &last };
+        for i in 0..mark_count(marks.bytes) {
+            self.work(prices, i);
+        }
     }
 }

@@ -8,6 +8,6 @@ mod one_mark;
 mod prices;
 mod settling;
 
-pub use cents::{AudCents, NzdCents};
+pub use cents::{Aud, Cents, Nzd};
 pub use one_mark::{MarkPrices, mark};
-pub use settling::{Settlement, settle};
+pub use settling::{Settled, settle};

@@ -1,57 +1,37 @@
 // Standard input, read into a lent buffer.
-ghost use Rattle.sheet.specs.Input.{Moves, Takes, InBuffer, Holds};
+ghost use Rattle.std.specs.Io.{ReadsAtMost};
+ghost use Rattle.std.specs.Io.KnownBytes.{ReadConsumes};
+ghost use Rattle.sheet.specs.Input.{InBuffer, Holds};
 
-use std::io::{ErrorKind, Read};
+use std::io::{self, ErrorKind, Read};
 
-// What one read brings: some bytes, the end of the input, or a failure.
-#[derive(Clone, Copy)]
-pub enum Step {
-    Some(usize),
-    End,
-    Failed,
-}
-
-// One read, made again where a signal interrupts it.
-fn read_some<R: Read>(reader: &mut R, part: &mut [u8]) -> Step
-    ensures count { Moves result part.old }
-    ensures bytes { Takes result (R.remaining reader.old) (R.remaining reader.new) part.new }
+// One read, made again where a signal interrupts it. What it brings is as of `Read::read`: where there is room, 0 is the input's end.
+fn read_some<R: Read>(reader: &mut R, part: &mut [u8]) -> io::Result<usize>
+    ensures count { ReadsAtMost result part.new }
+    ensures bytes { ReadConsumes (R.remaining reader.old) (R.remaining reader.new) result part.new }
 {
     for _ in 0..u64::MAX {
         match reader.read(part) {
-            Ok(0) => return Step::End,
-            Ok(k) => return Step::Some(k),
             Err(e) if e.kind() == ErrorKind::Interrupted => {}
-            Err(_) => return Step::Failed,
+            answer => return answer,
         }
     }
-    Step::Failed
+    Err(ErrorKind::Interrupted.into())
 }
 
-// How many bytes the input has put at the start of the buffer.
-#[derive(Clone, Copy)]
-pub enum Input {
-    Bytes(usize),
-    Failed,
-}
-
-// Reads until the buffer is full or the input ends. A read that fails is an answer of its own.
-pub(crate) fn read_file<R: Read>(reader: &mut R, file: &mut [u8]) -> Input
+// Reads until the buffer is full or the input ends, and answers how many bytes stand at the start of the buffer.
+pub(crate) fn read_file<R: Read>(reader: &mut R, file: &mut [u8]) -> io::Result<usize>
     ensures count { InBuffer result file.new }
     ensures bytes { Holds result (R.remaining reader.old) (R.remaining reader.new) file.new }
 {
+    // No `for`: the place moves by what a read brings.
     let mut n = 0;
     while n < file.len() {
-        match read_some(reader, &mut file[n..]) {
-            Step::Some(k) => {
-                n += k;
-            }
-            Step::End => {
-                return Input::Bytes(n);
-            }
-            Step::Failed => {
-                return Input::Failed;
-            }
+        let k = read_some(reader, &mut file[n..])?;
+        if k == 0 {
+            return Ok(n);
         }
+        n += k;
     }
-    Input::Bytes(n)
+    Ok(n)
 }

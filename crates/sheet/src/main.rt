@@ -4,7 +4,7 @@
 mod input;
 
 use dayfile::DayFile;
-use input::{Input, read_file};
+use input::read_file;
 use report::SHEET_SIZE;
 use std::io;
 use std::process::ExitCode;
@@ -13,6 +13,7 @@ use std::process::ExitCode;
 const INPUT_SIZE: usize = 65_536;
 
 fn print_sheet(rt: &impl Print, file: &[u8]) -> io::Result<()> {
+    // No heap, here and for the input: a place for all that a file may have.
     let mut amounts = [0i64; DayFile::MAX_POSITIONS];
     let mut out = [0u8; SHEET_SIZE];
     let n = report::sheet(file, &mut amounts, &mut out);
@@ -27,11 +28,11 @@ fn failed(rt: &impl Eprint, what: &str) -> ExitCode {
 
 fn main(rt: HostRuntime) -> ExitCode {
     let mut file = [0u8; INPUT_SIZE];
-    match read_file(&mut rt.stdin(), &mut file) {
-        Input::Bytes(n) => match print_sheet(&rt, &file[..n]) {
-            Ok(()) => ExitCode::SUCCESS,
-            Err(_) => failed(&rt, "standard output cannot be written"),
-        },
-        Input::Failed => failed(&rt, "standard input cannot be read"),
+    let Ok(n) = read_file(&mut rt.stdin(), &mut file) else {
+        return failed(&rt, "standard input cannot be read");
+    };
+    match print_sheet(&rt, &file[..n]) {
+        Ok(()) => ExitCode::SUCCESS,
+        Err(_) => failed(&rt, "standard output cannot be written"),
     }
 }

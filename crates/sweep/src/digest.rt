@@ -2,14 +2,14 @@
 ghost use Rattle.std.specs.Prelude.{◌<◌};
 
 use digests::digest_with;
-use pricing::Priced;
+use faults::Fault;
 use products::Code;
 
 // The digest h with an answer after it: the number given and a 0, or the number of the refusal and a 1.
-fn with_answer(h: u64, answer: Priced) -> u64 {
+fn with_answer(h: u64, answer: Result<u64, Fault>) -> u64 {
     match answer {
-        Priced::Given(n) => digest_with(digest_with(h, n), 0),
-        Priced::Refused(k) => digest_with(digest_with(h, k as u64), 1),
+        Ok(n) => digest_with(digest_with(h, n), 0),
+        Err(fault) => digest_with(digest_with(h, u64::from(u32::from(fault))), 1),
     }
 }
 
@@ -24,11 +24,13 @@ fn with_answers(h: u64, code: Code, price: u32) -> u64 {
 pub(crate) fn at_prices(code: Code, first: u32, last: u32, step: u32) -> u64
     requires { 0 < step }
 {
+    let last = u64::from(last);
     let mut h = 0;
-    let mut price = first as u64;
-    while price <= last as u64 {
+    let mut price = u64::from(first);
+    // No `step_by`, which passes over each number between two prices: up to four billion of them.
+    while price <= last {
         h = with_answers(h, code, price as u32);
-        price += step as u64;
+        price += u64::from(step);
     }
     h
 }
@@ -36,8 +38,10 @@ pub(crate) fn at_prices(code: Code, first: u32, last: u32, step: u32) -> u64
 // The digest of the answers for all codes at a price, from two zero bytes to two of 255.
 pub(crate) fn over_codes(price: u32) -> u64 {
     let mut h = 0;
-    for k in 0u32..65_536 {
-        h = with_answers(h, Code((k / 256) as u8, (k % 256) as u8), price);
+    for first in 0..=u8::MAX {
+        for second in 0..=u8::MAX {
+            h = with_answers(h, Code(first, second), price);
+        }
     }
     h
 }

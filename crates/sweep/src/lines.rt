@@ -1,7 +1,7 @@
 // Lines of text on standard output.
 ghost use Rattle.std.specs.Prelude.{◌<◌};
 
-use pricing::Priced;
+use faults::Fault;
 use products::Code;
 use std::io;
 
@@ -10,10 +10,10 @@ fn letters(rt: &impl Print, code: Code) -> io::Result<()> {
 }
 
 // A space, and the number given or the refusal.
-fn answer(rt: &impl Print, a: Priced) -> io::Result<()> {
+fn answer(rt: &impl Print, a: Result<u64, Fault>) -> io::Result<()> {
     match a {
-        Priced::Given(n) => print!(rt; " {n}"),
-        Priced::Refused(k) => print!(rt; " refused {k}"),
+        Ok(n) => print!(rt; " {n}"),
+        Err(fault) => print!(rt; " refused {}", u32::from(fault)),
     }
 }
 
@@ -36,19 +36,20 @@ pub(crate) fn at_prices(
 ) -> io::Result<()>
     requires { 0 < step }
 {
-    let mut price = first as u64;
-    while price <= last as u64 {
+    let last = u64::from(last);
+    let mut price = u64::from(first);
+    // No `step_by`, which passes over each number between two prices: up to four billion of them.
+    while price <= last {
         letters(rt, code)?;
         answers(rt, code, price as u32)?;
-        price += step as u64;
+        price += u64::from(step);
     }
     Ok(())
 }
 
 // A line whose code is written as two numbers, since it need not be text.
 pub(crate) fn of_bytes(rt: &impl Print, code: Code, price: u32) -> io::Result<()> {
-    let first = code.0;
-    let second = code.1;
+    let Code(first, second) = code;
     print!(rt; "{first} {second}")?;
     answers(rt, code, price)
 }

@@ -40,8 +40,8 @@ fn off_tick(rt: &impl Print, code: Code) -> io::Result<()> {
 // Digests of every price just above the limit, and of multiples of 65,537, of which the largest u32 is one.
 fn above_limit(rt: &impl Print, code: Code) -> io::Result<()> {
     lines::at_prices(rt, code, 999_900, 1_000_100, 25)?;
-    lines::at_prices(rt, code, 1_000_001, 4_294_967_295, 2_146_983_647)?;
-    lines::at_prices(rt, code, 4_294_967_200, 4_294_967_295, 25)?;
+    lines::at_prices(rt, code, 1_000_001, u32::MAX, 2_146_983_647)?;
+    lines::at_prices(rt, code, 4_294_967_200, u32::MAX, 25)?;
     lines::digest(
         rt,
         code,
@@ -52,55 +52,61 @@ fn above_limit(rt: &impl Print, code: Code) -> io::Result<()> {
         rt,
         code,
         "far above digest",
-        digest::at_prices(code, 1_048_592, 4_294_967_295, 65_537),
+        digest::at_prices(code, 1_048_592, u32::MAX, 65_537),
     )
 }
 
 // A code that no product has: at an ordinary price, at 0, above the limit and off the tick.
 fn unlisted(rt: &impl Print, code: Code) -> io::Result<()> {
-    lines::of_bytes(rt, code, 950_000)?;
-    lines::of_bytes(rt, code, 0)?;
-    lines::of_bytes(rt, code, 1_000_001)?;
-    lines::of_bytes(rt, code, 950_025)
-}
-
-// All 65,536 codes at one price.
-fn every_code(rt: &impl Print, price: u32) -> io::Result<()> {
-    lines::all_codes(rt, price, digest::over_codes(price))
+    for price in [950_000, 0, 1_000_001, 950_025] {
+        lines::of_bytes(rt, code, price)?;
+    }
+    Ok(())
 }
 
 fn products(rt: &impl Print) -> io::Result<()> {
-    product(rt, Code(b'I', b'R'), 100)?;
-    product(rt, Code(b'B', b'B'), 100)?;
-    product(rt, Code(b'I', b'B'), 50)?;
-    product(rt, Code(b'Y', b'T'), 50)?;
-    product(rt, Code(b'X', b'T'), 50)?;
-    product(rt, Code(b'X', b'X'), 50)
+    for (first, second) in [(b'I', b'R'), (b'B', b'B')] {
+        product(rt, Code(first, second), 100)?;
+    }
+    for (first, second) in [(b'I', b'B'), (b'Y', b'T'), (b'X', b'T'), (b'X', b'X')] {
+        product(rt, Code(first, second), 50)?;
+    }
+    Ok(())
 }
 
 // Lower case, letters swapped or taken from two codes, no letters, and letters with the highest bit set.
 fn unlisted_codes(rt: &impl Print) -> io::Result<()> {
-    unlisted(rt, Code(b'i', b'r'))?;
-    unlisted(rt, Code(b'I', b'r'))?;
-    unlisted(rt, Code(b'x', b'X'))?;
-    unlisted(rt, Code(b'R', b'I'))?;
-    unlisted(rt, Code(b'T', b'Y'))?;
-    unlisted(rt, Code(b'B', b'I'))?;
-    unlisted(rt, Code(b'I', b'T'))?;
-    unlisted(rt, Code(b'Z', b'Z'))?;
-    unlisted(rt, Code(0, 0))?;
-    unlisted(rt, Code(b'I', 0))?;
-    unlisted(rt, Code(b' ', b' '))?;
-    unlisted(rt, Code(b' ', b'B'))?;
-    unlisted(rt, Code(201, 210))?;
-    unlisted(rt, Code(255, 255))
+    for (first, second) in [
+        (b'i', b'r'),
+        (b'I', b'r'),
+        (b'x', b'X'),
+        (b'R', b'I'),
+        (b'T', b'Y'),
+        (b'B', b'I'),
+        (b'I', b'T'),
+        (b'Z', b'Z'),
+        (0, 0),
+        (b'I', 0),
+        (b' ', b' '),
+        (b' ', b'B'),
+        (201, 210),
+        (255, 255),
+    ] {
+        unlisted(rt, Code(first, second))?;
+    }
+    Ok(())
+}
+
+// All 65,536 codes, at an ordinary price, at 0, above the limit and off the tick.
+fn every_code(rt: &impl Print) -> io::Result<()> {
+    for price in [950_000, 0, 1_000_001, 950_025] {
+        lines::all_codes(rt, price, digest::over_codes(price))?;
+    }
+    Ok(())
 }
 
 fn main(rt: HostRuntime) -> io::Result<()> {
     products(&rt)?;
     unlisted_codes(&rt)?;
-    every_code(&rt, 950_000)?;
-    every_code(&rt, 0)?;
-    every_code(&rt, 1_000_001)?;
-    every_code(&rt, 950_025)
+    every_code(&rt)
 }

@@ -1,13 +1,11 @@
 -- The laws of decimal numbers.
 use mathlib.Core.Path.{◌≡◌, refl, sym, ap, ◌∙◌}
-use mathlib.Core.Bool.{cond}
 use mathlib.Core.List.{[], ◌∷◌, ◌++◌}
-use Prim.Native.Nat.{ℕ, zero, suc, ◌+◌, ◌*◌, ◌/◌, ◌%◌, ◌^◌, ◌≤◌, ◌<◌}
+use Prim.Native.Nat.{ℕ, zero, suc, ◌+◌, ◌*◌, ◌/◌, ◌%◌, ◌^◌, ◌≤◌, ◌<◌, max}
 use native.Mathlib.Decide.{dec_lt}
-use native.Mathlib.Nat.{div-lt_self, div-lt_iff_lt-mul, le-div_iff_mul-le, div-div-eq-div-mul, div-one, pow-suc}
+use native.Mathlib.Nat.{div-lt_self, div-lt_iff_lt-mul, le-div_iff_mul-le, pow-suc}
 use native.Mathlib.Omega.{arith}
 use borrow.Author.Tests.{lt-ltb, le-ltb}
-use lib.Dec.{ltb}
 use lib.ListN.{length, length-append}
 use lib.IntN.{ℤ, pos, negsuc, nat_abs}
 use mir.Syntax.{w64}
@@ -68,38 +66,27 @@ decimal-length (suc k) n h =
 pub decimal_64 : {n : ℕ} → Fits w64 n → length (decimal n) ≤ 20
 decimal_64 {n} f = decimal-length 19 n (omega (arith, f.fits))
 
--- ---- counting the digits by the powers of ten
+-- from 10 ^ k on a number below 10 ^ (k + 1) has k + 1 digits
+digits_by_power : (k n : ℕ) → 10 ^ k ≤ n → n < 10 * 10 ^ k → length (decimal n) ≡ k + 1
+digits_by_power zero n h l = one_digit n l
+digits_by_power (suc k) n h l =
+    let p : 10 ^ suc k ≡ 10 ^ k * 10 = pow-suc 10 k in
+    let some : 0 < 10 ^ k = omega arith in
+    let ten : 0 < 10 = omega arith in
+    let low : 10 ^ k ≤ n / 10 = (le-div_iff_mul-le ten).1 (omega arith) in
+    let high : n / 10 < 10 * 10 ^ k = (div-lt_iff_lt-mul ten).1 (omega arith) in
+    omega (arith, more_digits n (omega arith), digits_by_power k (n / 10) low high)
 
--- k counts the digits of n but for those of n / p, and one
-pub record Counted (n p k : ℕ) : Type 0 where
-  pub power : 0 < p
-  pub count : length (decimal n) + 1 ≡ k + length (decimal (n / p))
-
-pub counted_none : (n : ℕ) → Counted n 1 1
-counted_none n = record { power = omega arith; count = omega (arith, ap (λ x. length (decimal x)) (div-one n)) }
-
-pub counted-more : {n p k : ℕ} → p * 10 ≤ n → Counted n p k → Counted n (p * 10) (k + 1)
-counted-more {n} {p} h c =
-    let a = more_digits (n / p) ((le-div_iff_mul-le c.power).1 (omega arith)) in
-    record { power = omega (arith, c.power); count = omega (arith, a, ap (λ x. length (decimal x)) (div-div-eq-div-mul n p 10), c.count) }
-
--- below ten times p, those are all
-pub counted_all : {n p k : ℕ} → n < p * 10 → Counted n p k → k ≡ length (decimal n)
-counted_all {n} {p} h c = omega (arith, one_digit (n / p) ((div-lt_iff_lt-mul c.power).1 (omega arith)), c.count)
-
--- a choice at each power of ten: i counts the powers, and k stays behind it once n has ended
-pub counted_step : (i : ℕ) {n p k r : ℕ} → r ≡ cond (ltb n (p * 10)) k (i + 1) → (p ≤ n → k ≡ i) → Counted n p k
-    → (p * 10 ≤ n → r ≡ i + 1) × Counted n (p * 10) r
-counted_step i {n} {p} {k} {r} t e c = go (dec_lt n (p * 10))
+-- 0 has as many digits as 1
+pub digits_from_one : (k n : ℕ) {m : ℕ} → m ≡ max n 1 → 10 ^ k ≤ m → m < 10 * 10 ^ k → k + 1 ≡ length (decimal n)
+digits_from_one k n {m} e h l = go (dec_lt n 1)
   where
-    go : Dec (n < p * 10) → (p * 10 ≤ n → r ≡ i + 1) × Counted n (p * 10) r
-    go (yes s) =
-        let q : r ≡ k = rw (lt-ltb n (p * 10) s) at t in
-        let a = one_digit (n / (p * 10)) ((div-lt_iff_lt-mul (omega (arith, c.power))).1 (omega arith)) in
-        (λ m. absurd (omega arith), record { power = omega (arith, c.power); count = omega (arith, a, counted_all s c) })
-    go (no s) =
-        let q : r ≡ k + 1 = rw (le-ltb n (p * 10) (omega arith)) at t ∙ ap (λ x. x + 1) (sym (e (omega (arith, c.power)))) in
-        (λ m. omega (arith, e (omega (arith, c.power))), rw q (counted-more (omega arith) c))
+    d : length (decimal m) ≡ k + 1
+    d = digits_by_power k m h l
+
+    go : Dec (n < 1) → k + 1 ≡ length (decimal n)
+    go (yes z) = let i : m ≡ 1 = omega arith in omega (arith, one_digit n (omega arith), one_digit m (omega arith), d)
+    go (no s) = let i : m ≡ n = omega arith in sym (rw i at d)
 
 -- ---- signed numbers
 

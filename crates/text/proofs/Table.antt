@@ -1,17 +1,17 @@
 -- The laws of numbers that are written from a table of figures.
 use mathlib.Core.Path.{◌≡◌, refl, sym, ap, ◌∙◌}
-use mathlib.Core.Bool.{true, false, true≢false}
 use mathlib.Core.List.{List, [], ◌∷◌, ◌++◌, append_assoc}
 use Prim.Native.Nat.{ℕ, zero, suc, ◌+◌, ◌*◌, ◌-◌, ◌/◌, ◌%◌, ◌≤◌, ◌<◌}
 use native.Mathlib.Decide.{dec_lt}
 use native.Mathlib.Nat.{div-div-eq-div-mul, add-zero, zero-add, not-suc-le-zero, le_of_suc-le-suc}
 use native.Mathlib.Numerals.{add-one}
 use native.Mathlib.Omega.{arith}
-use borrow.Author.Tests.{ltb-true}
+use borrow.Author.Tests.{le-ltb}
 use lib.ListN.{length, get_or, take, set, length-append}
 use lib.Seq.{length-take-le}
 use lib.IntN.{ℤ, pos, negsuc}
 use lib.Signed.{lt_z}
+use mir.Val.{bool_byte}
 use Rattle.text.specs.Writing.{over}
 use Rattle.text.specs.Decimal.{digit, decimal, minus_sign, signed_decimal}
 use Rattle.text.specs.Table.{pairs_from, digit_pairs, first_of, second_of, figures, decimal_by, sign_of, signed_decimal_by}
@@ -129,15 +129,11 @@ first-written t n i now h e b = go (dec_lt n 10)
 
 -- ---- signed numbers
 
-pub sign_negative : (z : ℤ) → lt_z z (pos 0) ≡ true → sign_of z ≡ minus_sign ∷ []
+-- 1 byte for a negative number, else 0
+pub sign_size : (z : ℤ) → bool_byte (lt_z z (pos 0)) ≡ length (sign_of z)
 unfolding sign_of
-sign_negative (pos n) t = absurd (omega (arith, ltb-true n 0 t))
-sign_negative (negsuc n) t = refl
-
-pub sign_plain : (z : ℤ) → lt_z z (pos 0) ≡ false → sign_of z ≡ []
-unfolding sign_of
-sign_plain (pos n) t = refl
-sign_plain (negsuc n) t = absurd (true≢false t)
+sign_size (pos n) = rw (le-ltb n 0 (omega arith)) refl
+sign_size (negsuc n) = refl
 
 -- a sign is none, or the minus sign
 pub sign_is : (z : ℤ) {s : ℕ} → s ≡ length (sign_of z) → (s ≤ 1) × (take s (minus_sign ∷ []) ≡ sign_of z)

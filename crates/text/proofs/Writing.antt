@@ -3,12 +3,12 @@ use mathlib.Core.Path.{◌≡◌, refl, sym, ap, ap₂, ◌∙◌}
 use mathlib.Core.List.{List, [], ◌∷◌, ◌++◌, append_assoc, append-nil}
 use Prim.Native.Nat.{ℕ, zero, suc, ◌+◌, ◌*◌, ◌-◌, ◌≤◌, ◌<◌}
 use mathlib.Core.Logic.{⊎_elim}
-use native.Mathlib.Nat.{not-suc-le-zero, le_antisymm, zero-add, eq-or-lt_of_le, le_of_suc-le-suc}
+use native.Mathlib.Nat.{not-suc-le-zero, zero-add, eq-or-lt_of_le, le_of_suc-le-suc}
 use native.Mathlib.Numerals.{add-one}
 use native.Mathlib.Omega.{arith}
 use borrow.Author.Tests.{le-leb, lt-leb}
 use lib.ListN.{length, length-set, get_or, take, drop, set, length-append, length-take, length-drop, drop_of_length-le}
-use lib.Seq.{sets, sets-eq, drop_at, drop-drop, take-append-le, drop-append-le, drop-append-add, drop-cons, set_at, set_split, paste-suc, take_all, take-length, length-take-le}
+use lib.Seq.{sets, sets-eq, drop_at, drop-drop, take-append-le, drop-append-le, drop-append-add, drop-cons, set_at, set_split, take_all, length-take-le}
 use borrow.Rule.Slice.PartMut.{mid_of, put_mid, same_len_mid}
 use Rattle.text.specs.Writing.{over, Wrote, Writes, fitted, texts}
 
@@ -113,6 +113,10 @@ pub wrote_stores : (s out : List ℕ) → length s ≤ length out → Wrote s (l
 wrote_stores s out h =
     record { within = h; count = refl; written = sets-eq s out 0 (omega arith) ∙ ap (λ k. s ++ drop k out) (zero-add (length s)) }
 
+-- all at once
+pub wrote_copy : (s out : List ℕ) {copy : List ℕ} → length s ≤ length out → copy ≡ s → Wrote s (length s) out (copy ++ drop (length s) out)
+wrote_copy s out h e = record { within = h; count = refl; written = ap (λ x. x ++ drop (length s) out) e }
+
 -- ---- a text that a buffer has room for
 
 pub fitted-is : (s out : List ℕ) → length s ≤ length out → fitted s out ≡ s
@@ -172,18 +176,6 @@ writes_none out = record { within = omega arith; kept = refl; whole = λ h. wrot
 
 pub writes_as : {s t out after : List ℕ} {n : ℕ} → s ≡ t → Writes s n out after → Writes t n out after
 writes_as e w = rw (← e) w
-
--- ---- a loop that copies byte by byte
-
-pub copied_more : (s out : List ℕ) (i : ℕ) {now : List ℕ} → i < length s → length s ≤ length out → now ≡ take i s ++ drop i out
-    → set now i (get_or s i 0) ≡ take (i + 1) s ++ drop (i + 1) out
-copied_more s out i h k e = rw (e, add-one) (simp zero-add at (paste-suc out 0 s i 0 (omega arith) h))
-
-pub copied : (s out : List ℕ) {i : ℕ} {now : List ℕ} → length s ≤ length out → now ≡ take i s ++ drop i out → i ≤ length s → length s ≤ i → Wrote s (length s) out now
-copied s out {i} f e h k = let q : i ≡ length s = le_antisymm h k in record { within = f; count = refl; written = e ∙ rw (q, take-length s) }
-
-pub length_copied : (s out : List ℕ) (i : ℕ) → i ≤ length s → length s ≤ length out → length (take i s ++ drop i out) ≡ length out
-length_copied s out i h k = simp (length-append, length-drop) (omega (arith, length-take-le i s h))
 
 -- ---- several texts, one after the other
 

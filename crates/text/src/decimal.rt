@@ -1,5 +1,5 @@
 // Decimal numbers.
-ghost use Rattle.std.specs.Prelude.{◌≡◌, cond, ltb, ◌+◌, ◌<◌, ◌≤◌, length, take, nat_abs, [], ◌∷◌, ◌++◌};
+ghost use Rattle.std.specs.Prelude.{◌≡◌, ◌+◌, ◌<◌, ◌≤◌, length, take, nat_abs, [], ◌∷◌, ◌++◌};
 ghost use Rattle.text.specs.Decimal.{decimal, minus_sign};
 ghost use Rattle.text.specs.Table.{digit_pairs, decimal_by, sign_of, signed_decimal_by};
 ghost use Rattle.text.specs.Writing.{over, fitted, Wrote};
@@ -15,53 +15,11 @@ pub fn digit_pairs() -> [u8; 200]
     PAIRS
 }
 
-// i where n is at least p, else k.
-fn later(n: u64, p: u64, i: usize, k: usize) -> usize
-    ensures { result ≡ cond (ltb n p) k i }
-{
-    if n < p {
-        return k;
-    }
-    i
-}
-
-// How many digits a number below 10,000,000,000 has: the same tests for every number, so that no jump depends on it.
-fn short_width(n: u64) -> usize
-    requires { n < 10_000_000_000 }
-    ensures { result ≡ length (decimal n) }
-{
-    let mut power = 1;
-    let mut i = 1;
-    let mut k = 1;
-    while power < 1_000_000_000 {
-        power *= 10;
-        i += 1;
-        k = later(n, power, i, k);
-    }
-    k
-}
-
-fn long_width(n: u64) -> usize
-    ensures { result ≡ length (decimal n) }
-{
-    let tenth = n / 10;
-    let mut power = 1;
-    let mut k = 1;
-    while power <= tenth {
-        power *= 10;
-        k += 1;
-    }
-    k
-}
-
-// How many digits a number has.
+// How many digits a number has; 0 has one. No jump depends on the number.
 fn width(n: u64) -> usize
     ensures { result ≡ length (decimal n) }
 {
-    if n < 10_000_000_000 {
-        return short_width(n);
-    }
-    long_width(n)
+    n.max(1).ilog10() as usize + 1
 }
 
 // Writes the one or two digits of a number below 100, the last in the place i. A first digit 0 is overwritten, so that no jump
@@ -75,7 +33,7 @@ fn write_first(pairs: &[u8; 200], n: u64, i: usize, out: &mut [u8])
     out[i] = pairs[p + 1];
 }
 
-// Writes the k digits of a number, the last first, two at a time.
+// Writes the k digits of a number, the last first, two at a time. The loop ends where the number does, and counts nothing.
 fn write_digits(pairs: &[u8; 200], n: u64, k: usize, out: &mut [u8])
     requires { (k ≡ length (decimal n)) × (k ≤ length out.old) }
     ensures { Wrote (decimal_by pairs.now n) k out.old out.new }
@@ -109,21 +67,14 @@ pub fn write_decimal(pairs: &[u8; 200], n: u64, out: &mut [u8]) -> usize
 pub fn magnitude(n: i64) -> u64
     ensures { result ≡ nat_abs n }
 {
-    if n < 0 {
-        (-(n + 1)) as u64 + 1
-    } else {
-        n as u64
-    }
+    n.unsigned_abs()
 }
 
 // 1 for a negative number, else 0.
 fn sign(n: i64) -> usize
     ensures { result ≡ length (sign_of n) }
 {
-    if n < 0 {
-        return 1;
-    }
-    0
+    usize::from(n < 0)
 }
 
 // Writes a minus sign where s is 1, and the digits. The first digit overwrites a sign that should not stand, so that no jump depends on s.

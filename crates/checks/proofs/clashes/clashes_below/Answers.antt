@@ -1,5 +1,5 @@
 -- By whether k is 0, which names no correction; any other k names the one with the index k − 1.
-use Rattle.std.proofs.Common.{◌-◌, arith}
+use Rattle.std.proofs.Common.{arith}
 use Rattle.dayfile.specs.Records.{corrections_in}
 use Rattle.checks.specs.Corrections.{clashing}
 use Rattle.numbers.proofs.Chain.{by_two}
@@ -12,5 +12,5 @@ returns-then-k-eq0 c = let a = c.args in below_none (corrections_in a.correction
 pub returns : goal.returns
 returns c =
     let a = c.args in
-    below_one (corrections_in a.corrections.now) a.i a.k (a.k - 1) (omega (arith, c.if-k-eq0.false))
+    below_one (corrections_in a.corrections.now) a.i a.k c.from.result (omega (arith, c.from.ensures, c.if-k-eq0.false))
     (by_two clashing c.clash.ensures c.correction_at.ensures c.correction_at-2.ensures)

@@ -1,19 +1,22 @@
 -- Where all checks are looked at they decide as their order does, and the judgement goes by that decision.
-use Rattle.std.proofs.Common.{refl, ap, ◌∙◌}
+use Rattle.std.proofs.Common.{◌≡◌, ap, ◌∙◌, rules}
 use Rattle.numbers.proofs.Checks.{decision_all}
-use Rattle.dayfile.specs.Records.{lists_of}
-use Rattle.checks.specs.Judging.{record_checks}
-use Rattle.checks.specs.declared.judging.Judged.TheVariants.{Passed}
-use Rattle.checks.proofs.Judgements.{judged_by_lem}
+use Rattle.faults.specs.Faults.{number_of}
+use Rattle.checks.specs.Corrections.{resent_of}
+use Rattle.checks.specs.Judging.{lists_of_records, record_checks, judged, judged_by, Passed, Refused}
 use Rattle.checks.proofs.judging.judge_records.Goals as goal
 
-pub returns-in-Met : goal.returns-in-Met
-returns-in-Met c =
+pub returns-in_err-resent : goal.returns-in_err-resent
+returns-in_err-resent c =
     let a = c.args in
-    judged_by_lem _ _ (c.decide_records-judged.ensures.0 ∙ decision_all (record_checks (lists_of a.marks.now a.corrections.now a.positions.now))) c.in-Met.is refl
+    let ls = lists_of_records a.records in
+    let r = c.in_err-resent.field-0.0 in
+    let same : judged c.from_residual.result ≡ Refused (number_of r.fault) r.index = search rules in
+    same ∙ ap (judged_by a.counts (resent_of ls.corrections)) (c.in_err-resent.ensures.decision ∙ decision_all (record_checks ls))
 
-pub returns-in-Unmet : goal.returns-in-Unmet
-returns-in-Unmet c =
+pub returns : goal.returns
+returns c =
     let a = c.args in
-    judged_by_lem _ _ (c.decide_records-judged.ensures.0 ∙ decision_all (record_checks (lists_of a.marks.now a.corrections.now a.positions.now)))
-    c.in-Unmet.is (ap (Passed a.counts) c.decide_records-judged.ensures.1)
+    let ls = lists_of_records a.records in
+    ap (Passed a.counts) c.in_ok-resent.ensures.resent
+    ∙ ap (judged_by a.counts (resent_of ls.corrections)) (c.in_ok-resent.ensures.decision ∙ decision_all (record_checks ls))

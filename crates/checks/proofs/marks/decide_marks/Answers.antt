@@ -6,12 +6,12 @@ use Rattle.checks.proofs.marks.decide_marks.Goals as goal
 
 pub returns-then-bad-is_some : goal.returns-then-bad-is_some
 returns-then-bad-is_some c =
-    let ms = marks_in c.args.marks.now in
-    (marks_decided ms _ c.find_first.ensures c.repeated-repeated.ensures c.decide.ensures, c.some_fault-bad.ensures.1)
+    let ms = marks_in c.args.marks.bytes.now in
+    (marks_decided ms _ c.repeated-repeated.ensures c.decide.ensures, c.some_fault-bad.ensures.1)
 
 pub returns : goal.returns
 returns c =
-    let ms = marks_in c.args.marks.now in
+    let ms = marks_in c.args.marks.bytes.now in
     let l = c.some_fault-bad.ensures in
     let n = neither c.is_some.ensures c.if-bad-is_some.false in
     (sym (marks_clear ms (sym l.0 ∙ n.0) _ (sym c.repeated-repeated.ensures ∙ n.1)), l.1)

@@ -1,5 +1,5 @@
 -- At step i the answer so far is whether one of the first i marks has a fault, and the first i places of the array hold their ticks.
-use Rattle.std.proofs.Common.{◌≡◌, ◌-◌, ◌≤◌, length}
+use Rattle.std.proofs.Common.{◌≡◌, length}
 use Rattle.numbers.specs.Folds.{some, Filled}
 use Rattle.dayfile.specs.Limits.{file_limits}
 use Rattle.dayfile.specs.Records.{marks_in, mark_at}
@@ -8,9 +8,6 @@ use Rattle.checks.proofs.marks.some_fault.Given as goal
 
 abbrev pub invariant-loop-i : goal.invariant-loop-i
 invariant-loop-i l =
-    ((l.i ≤ l.n) × (length l.ticks ≡ file_limits.marks))
-    × (l.bad ≡ some (λ k. any_mark_fault (mark_faults (mark_at (marks_in l.marks) k))) l.i)
-    × Filled 0 (tick_at (marks_in l.marks)) l.i l.ticks
-
-abbrev pub decreases-loop-i : goal.decreases-loop-i
-decreases-loop-i l = l.n - l.i
+    (length l.ticks ≡ file_limits.marks)
+    × (l.bad ≡ some (λ k. any_mark_fault (mark_faults (mark_at (marks_in l.marks.bytes.now) k))) l.i)
+    × Filled 0 (tick_at (marks_in l.marks.bytes.now)) l.i l.ticks

@@ -1,10 +1,10 @@
 -- By the numbers of marks and positions: above a limit check 2 refuses before all others, and within both the checks over positions decide.
-use Rattle.std.proofs.Common.{ltb, ◌∙◌, ltb-false}
+use Rattle.std.proofs.Common.{◌∙◌}
 use Rattle.numbers.proofs.Checks.{one_decides, one_passes, decision_all}
-use Rattle.numbers.proofs.Searches.{or_none}
 use Rattle.dayfile.specs.Limits.{file_limits}
 use Rattle.dayfile.specs.Records.{marks_in, positions_in}
 use Rattle.checks.specs.Positions.{position_checks, too_many_positions}
+use Rattle.checks.proofs.Deciding.{above_limits}
 use Rattle.checks.proofs.positions.check_positions.Goals as goal
 
 pub returns-then-mark_count-position_count : goal.returns-then-mark_count-position_count
@@ -12,12 +12,7 @@ returns-then-mark_count-position_count c =
     let a = c.args in
     let ms = marks_in a.marks.now in
     let ps = positions_in a.positions.now in
-    one_decides (too_many_positions file_limits ms ps) (position_checks ms ps) (rw (← c.mark_count.ensures, ← c.position_count.ensures) c.if-mark_count-position_count.true)
-
-pub decide_positions-requires : goal.decide_positions-requires
-decide_positions-requires c =
-    let more = or_none (ltb file_limits.marks c.mark_count.result) (ltb file_limits.positions c.position_count.result) c.if-mark_count-position_count.false in
-    (rw (← c.mark_count.ensures) (ltb-false _ _ more.0), rw (← c.position_count.ensures) (ltb-false _ _ more.1))
+    above_limits c.from.ensures ∙ one_decides (too_many_positions file_limits ms ps) (position_checks ms ps) (rw (← c.mark_count.ensures, ← c.position_count.ensures) c.if-mark_count-position_count.true)
 
 pub returns : goal.returns
 returns c =

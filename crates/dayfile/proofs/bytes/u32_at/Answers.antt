@@ -1,7 +1,7 @@
-use borrow.Author.Rules.{rules}
+use Rattle.std.proofs.Common.{arith}
 use Rattle.numbers.specs.Bytes.{u32_at}
 use Rattle.dayfile.proofs.bytes.u32_at.Goals as goal
 
 pub returns : goal.returns
 unfolding u32_at
-returns c = search rules
+returns c = omega (arith, c.from_le_bytes.ensures)

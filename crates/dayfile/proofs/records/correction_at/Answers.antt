@@ -1,17 +1,6 @@
--- By whether the section has a correction i: it is read from the 12 bytes at 12 * i, and past the end all fields are 0, as of no bytes.
-use mathlib.Core.Path.{sym, ◌∙◌}
-use native.Mathlib.Nat.{add-sub_cancel_left}
-use Rattle.numbers.specs.Bytes.{u32_at}
-use Rattle.dayfile.specs.Records.{correction_size, correction_of, correction_at}
-use Rattle.numbers.proofs.Sections.{record_here, record_past}
+use Rattle.dayfile.specs.Records.{correction_at}
 use Rattle.dayfile.proofs.records.correction_at.Goals as goal
 
-pub returns-then-i-s : goal.returns-then-i-s
+pub returns : goal.returns
 unfolding correction_at
-returns-then-i-s c =
-    c.correction_of.ensures ∙ rw add-sub_cancel_left (sym (record_here correction_of correction_size _ _ c.if-i-s.true))
-
-pub returns-else-i-s : goal.returns-else-i-s
-unfolding correction_at u32_at
-returns-else-i-s c =
-    sym (record_past correction_of correction_size _ _ c.if-i-s.false)
+returns c = c.record_at.ensures

@@ -38,19 +38,19 @@ pub overflow_sub-held : goal.overflow_sub-held
 overflow_sub-held c =
     let p = c.requires in
     let a = c.args in
-    let w = read_one a.place.now a.first a.second p.4.full (rw (c.wide.ensures, c.wide-2.ensures) at c.held_at-held.ensures) in
+    let w = read_one a.place.now a.first a.second p.3.full (rw (c.from.ensures, c.from-2.ensures) at c.held_at-held.ensures) in
     omega (arith, w.some)
 
 pub key_at-requires : goal.key_at-requires
 key_at-requires c =
     let p = c.requires in
     let a = c.args in
-    let w = read_one a.place.now a.first a.second p.4.full (rw (c.wide.ensures, c.wide-2.ensures) at c.held_at-held.ensures) in
-    (p.0, omega (arith, p.1 w.place, w.there))
+    let w = read_one a.place.now a.first a.second p.3.full (rw (c.from.ensures, c.from-2.ensures) at c.held_at-held.ensures) in
+    omega (arith, p.0 w.place, w.there)
 
 pub returns : goal.returns
 returns c =
     let p = c.requires in
     let a = c.args in
-    let w = read_one a.place.now a.first a.second p.4.full (rw (c.wide.ensures, c.wide-2.ensures) at c.held_at-held.ensures) in
+    let w = read_one a.place.now a.first a.second p.3.full (rw (c.from.ensures, c.from-2.ensures) at c.held_at-held.ensures) in
     told w c.key_at.ensures _ refl

@@ -13,11 +13,11 @@ kept-few held i k h l = go (eqb held 0)
 pub overflow_cast-place : goal.overflow_cast-place
 overflow_cast-place c =
     let p = c.requires in
-    let w = c.wide-held in
+    let w = c.from-held in
     omega (arith, c.held_at.ensures, kept-few w.result (c.args.i + 1) 4_096 (omega (arith, w.ensures, p.4 c.args.spot)) (omega (arith, p.3)))
 
 pub returns : goal.returns
 returns c =
     let a = c.args in
-    let w = c.wide-held.ensures in
+    let w = c.from-held.ensures in
     record { place = ap (set a.place.now a.spot) (rw w at c.held_at.ensures); entry = refl; count = rw w at c.one_more.ensures }

@@ -1,5 +1,5 @@
 -- Where the first place has another key the second decides.
-use Rattle.std.proofs.Common.{◌≡◌, ℕ, List, get_or, sym, refl, inl, inr}
+use Rattle.std.proofs.Common.{◌≡◌, ℕ, List, get_or, sym, refl, inl, inr, le_trans, arith}
 use Rattle.pairs.specs.Sifting.{Another, Puts, Second}
 use Rattle.pairs.proofs.Spots.{place-below}
 use Rattle.pairs.proofs.places.try_both.Goals as goal
@@ -13,7 +13,7 @@ by-second same f s w = rw (sym same) (record { first = f; second = s; puts = w }
 pub try_at-requires : goal.try_at-requires
 try_at-requires c =
     let p = c.requires in
-    (p.0, p.3, rw c.place_of-first.ensures (place-below _ _ _ p.5 refl), p.2)
+    (p.1, rw c.place_of-first.ensures (place-below _ _ _ p.2 refl), omega (arith, p.0, c.args.records.now.keyed.few))
 
 pub returns-in-Stays : goal.returns-in-Stays
 returns-in-Stays c = inl (record { comes = rw (c.in-Stays.is, c.place_of-first.ensures, c.stirred-y.ensures, c.key_at-x.ensures) at c.try_at.ensures; entry = refl; count = refl })
@@ -27,7 +27,7 @@ pub repeats_at-requires : goal.repeats_at-requires
 repeats_at-requires c =
     let p = c.requires in
     let q = rw c.in-Differs.is at c.try_at.ensures in
-    (p.0, λ a. rw q.0 (p.3 a), rw c.place_of-first.ensures (place-below _ _ _ p.5 c.try_at.auto.place), rw c.place_of-second.ensures (place-below _ _ _ p.5 c.try_at.auto.place), q.1)
+    (λ a. rw q.0 (p.1 a), rw c.place_of-first.ensures (place-below _ _ _ p.2 c.try_at.auto.place), rw c.place_of-second.ensures (place-below _ _ _ p.2 c.try_at.auto.place), q.1)
 
 pub returns-then-repeats_at : goal.returns-then-repeats_at
 returns-then-repeats_at c =
@@ -37,8 +37,9 @@ returns-then-repeats_at c =
 pub stay_or_list-requires : goal.stay_or_list-requires
 stay_or_list-requires c =
     let p = c.requires in
+    let few = c.args.records.now.keyed.few in
     let q = rw c.in-Differs.is at c.try_at.ensures in
-    (rw c.place_of-second.ensures (place-below _ _ _ p.5 c.try_at.auto.place), p.6, p.7, p.2, λ a. rw q.0 (p.4 a))
+    (rw c.place_of-second.ensures (place-below _ _ _ p.2 c.try_at.auto.place), p.3, p.4, omega (arith, p.0, few), λ a. rw q.0 (le_trans (p.1 a) few))
 
 pub returns : goal.returns
 returns c =

@@ -1,58 +1,56 @@
-use Rattle.std.proofs.Common.{◌≡◌, ℕ, ◌<◌, Bool, true, not, ◌&&◌, ◌||◌, ltb, refl, ◌∙◌, arith, ltb-true}
-use Rattle.numbers.proofs.Truth.{and_left}
+use Rattle.std.proofs.Common.{◌≤◌, length, sym, refl, ◌∙◌, length-take-le, arith, rules}
 use Rattle.pairs.proofs.Spots.{places_as, sixteenth_as}
-use Rattle.pairs.proofs.Turns.{sifts-sifts}
+use Rattle.pairs.proofs.Turns.{rising_part, sifts-turn, length-rest}
 use Rattle.pairs.proofs.sift.sift_all.Goals as goal
 
--- what the loop's test tells
-taken-turns : (turns : ℕ) (more : Bool) → (ltb turns 16 && more) ≡ true → turns < 16
-taken-turns turns more h = ltb-true turns 16 (and_left (ltb turns 16) more h)
+pub sift-s-requires : goal.sift-s-requires
+sift-s-requires c =
+    let p = c.requires in
+    (rw p.0 (record { below = λ u k. k; rising = λ u v k h. k }), omega (arith, p.0), p.1, p.2)
 
-pub loop-turns-init : goal.loop-turns-init
-loop-turns-init c = (refl, refl, c.sift_once-s.ensures)
+pub loop-turn-init : goal.loop-turn-init
+loop-turn-init c = (c.sift-s.auto.list ∙ c.requires.0, refl, rw c.requires.0 at c.sift-s.ensures)
 
 pub to_sift-all-requires : goal.to_sift-all-requires
-to_sift-all-requires c =
-    let p = c.requires in (omega (arith, p.1, c.loop-turns.invariant.0, c.sift_once-s.auto.list), p.0.few)
+to_sift-all-requires c = omega (arith, c.loop-turn.invariant.0, c.args.records.now.keyed.few)
 
-pub sift_anew-anew-requires : goal.sift_anew-anew-requires
-sift_anew-anew-requires c =
+pub slice_bounds-sift_anew-end : goal.slice_bounds-sift_anew-end
+slice_bounds-sift_anew-end c =
+    let l = c.loop-turn in
+    let w = (rw l.invariant.0 at c.to_sift-all.ensures).sifts _ l.invariant.2 in
+    omega (arith, w.fewer, l.invariant.0, c.to_sift-all.auto.list)
+
+pub slice_bounds-sift_anew-end-in-loop-turn : goal.slice_bounds-sift_anew-end-in-loop-turn
+slice_bounds-sift_anew-end-in-loop-turn c =
+    let l = c.loop-turn in
+    let w = (rw l.invariant.0 at c.to_sift-all.ensures).sifts _ l.invariant.2 in
+    sym (length-take-le _ _ (omega (arith, w.fewer, l.invariant.0, c.to_sift-all.auto.list)))
+
+pub sift_anew-requires : goal.sift_anew-requires
+sift_anew-requires c =
     let p = c.requires in
-    let l = c.loop-turns in
-    let w = c.to_sift-all.ensures.sifts _ l.invariant.2 in
-    let as_many = l.invariant.1 ∙ c.sift_once-s.auto.place in (
-      p.0,
-      w.listed,
-      omega (arith, w.fewer, p.1, l.invariant.0, c.sift_once-s.auto.list, c.to_sift-all.auto.list),
-      w.fewer,
-      places_as as_many p.2,
-      sixteenth_as as_many p.4,
+    let l = c.loop-turn in
+    let w = (rw l.invariant.0 at c.to_sift-all.ensures).sifts _ l.invariant.2 in
+    let few : c.to_sift-all.result.left ≤ length c.to_sift-all.new.list = omega (arith, w.fewer, l.invariant.0, c.to_sift-all.auto.list) in
+    let as_many = l.invariant.1 ∙ c.sift-s.auto.place in (
+      rising_part c.to_sift-all.new.list few w.listed,
+      rw (length-take-le _ _ few) w.fewer,
+      places_as as_many p.1,
+      sixteenth_as as_many p.3,
     )
 
-pub overflow_add-turns : goal.overflow_add-turns
-overflow_add-turns c =
-    let l = c.loop-turns in
-    omega (arith, taken-turns l.turns (not l.s.whole || ltb 0 l.s.left) c.loop-turns-test.true)
-
-pub loop-turns-smaller : goal.loop-turns-smaller
-loop-turns-smaller c =
-    let l = c.loop-turns in
-    omega (arith, taken-turns l.turns (not l.s.whole || ltb 0 l.s.left) c.loop-turns-test.true)
-
-pub loop-turns-preserved : goal.loop-turns-preserved
-loop-turns-preserved c =
-    let l = c.loop-turns in
-    let w = c.to_sift-all.ensures.sifts _ l.invariant.2 in (
-      c.sift_anew-anew.auto.list ∙ c.to_sift-all.auto.list ∙ l.invariant.0,
-      c.sift_anew-anew.auto.place ∙ l.invariant.1,
-      λ q. rw c.smaller.ensures (sifts-sifts w (c.sift_anew-anew.ensures q)),
+pub loop-turn-preserved : goal.loop-turn-preserved
+loop-turn-preserved c =
+    let l = c.loop-turn in
+    let w = (rw l.invariant.0 at c.to_sift-all.ensures).sifts _ l.invariant.2 in
+    let few : c.to_sift-all.result.left ≤ length c.to_sift-all.new.list = omega (arith, w.fewer, l.invariant.0, c.to_sift-all.auto.list) in (
+      length-rest c.sift_anew.new.list c.to_sift-all.new.list few c.sift_anew.auto.list ∙ c.to_sift-all.auto.list ∙ l.invariant.0,
+      c.sift_anew.auto.place ∙ l.invariant.1,
+      sifts-turn c.sift_anew.new.list c.sift_anew.result c.map-s.result w few c.sift_anew.auto.list c.sift_anew.ensures (λ x y p. search rules) c.map-s.ensures.cases,
     )
 
-pub shape_of-list : goal.shape_of-list
-shape_of-list c = c.loop-turns.invariant.0 ∙ c.sift_once-s.auto.list
+pub returns-then-is_some_and : goal.returns-then-is_some_and
+returns-then-is_some_and c = c.loop-turn.invariant.2
 
-pub shape_of-place : goal.shape_of-place
-shape_of-place c = c.loop-turns.invariant.1 ∙ c.sift_once-s.auto.place
-
-pub returns : goal.returns
-returns c = c.loop-turns.invariant.2
+pub returns-after-loop-turn : goal.returns-after-loop-turn
+returns-after-loop-turn c = c.loop-turn.invariant.2

@@ -1,15 +1,13 @@
--- By the lookup: a product that is found is a line of the table, so its terms are modest and its tick is positive, as `bracket_by` asks.
+use Rattle.std.proofs.Common.{◌≡◌, Err, ◌∙◌, rules}
 use Rattle.pricing.specs.Calls.{bracket_of}
-use Rattle.pricing.proofs.TableLines.{modest_line}
 use Rattle.pricing.proofs.contract.bracket.Goals as goal
 
-pub bracket_by-requires : goal.bracket_by-requires
-bracket_by-requires c = let s = modest_line _ c.lookup.ensures c.in-Named.is in (s.terms, s.tick)
-
-pub returns-in-Named : goal.returns-in-Named
+pub returns-in_err-of : goal.returns-in_err-of
 unfolding bracket_of
-returns-in-Named c = rw (← c.lookup.ensures, c.in-Named.is) c.bracket_by.ensures
+returns-in_err-of c =
+    let e : c.from_residual.result ≡ Err c.in_err-of.field-0.0 = search rules in
+    rw e (c.in_err-of.ensures _)
 
-pub returns-in-Missing : goal.returns-in-Missing
+pub returns : goal.returns
 unfolding bracket_of
-returns-in-Missing c = rw (← c.lookup.ensures, c.in-Missing.is)
+returns c = c.bracket.ensures ∙ c.in_ok-of.ensures _

@@ -3,4 +3,4 @@ use Rattle.pricing.proofs.Climbing.{first_rung}
 use Rattle.pricing.proofs.ladder.start.Goals as goal
 
 pub returns : goal.returns
-returns c = first_rung _ c.first_factor-first.ensures
+returns c = rw c.from.ensures (first_rung _ c.first_factor-first.ensures)

@@ -1,8 +1,22 @@
--- By the terms: a bond's values as `bond_values` works them, the others' one after the other.
+-- Where no price is turned away all are within the limit, and no value is a 0 for a refusal.
+use Rattle.std.proofs.Common.{ℕ, ◌<◌, get_or, ap, sym, ◌∙◌, arith, rules}
+use Rattle.pricing.specs.Calls.{lanes, or_zero}
+use Rattle.pricing.specs.Checking.{Passes}
+use Rattle.pricing.proofs.Made.{made}
+use Rattle.pricing.proofs.SideBySide.{no_index}
 use Rattle.pricing.proofs.valuing.values_by.Goals as goal
 
-pub bond_values-requires : goal.bond_values-requires
-bond_values-requires c = rw c.in-Bond.is at c.requires
+pub bonds_at-requires : goal.bonds_at-requires
+bonds_at-requires c =
+    let passes : (i : ℕ) → i < lanes → Passes c.args.product.tick (get_or c.args.p i 0) =
+    λ i h. (let s = no_index c.some_where.ensures c.if-not-some_where.true i h in search rules) in
+    (search rules, (search rules, (rw c.in-Bond.is at c.args.product.modest, record { few = omega arith; lane = λ i h. (passes i h).low })))
 
 pub returns-in-Bond : goal.returns-in-Bond
-returns-in-Bond c = rw c.in-Bond.is c.bond_values.ensures
+returns-in-Bond c =
+    let passes : (i : ℕ) → i < lanes → Passes c.args.product.tick (get_or c.args.p i 0) =
+    λ i h. (let s = no_index c.some_where.ensures c.if-not-some_where.true i h in search rules) in
+    rw c.in-Bond.is (record { entry = λ i h. c.bonds_at.ensures.entry i h ∙ ap or_zero (sym ((passes i h).answer _)) })
+
+pub returns-in_default : goal.returns-in_default
+returns-in_default c = made _ (λ i y f' k. search rules) 0 c.from_fn.ensures.items

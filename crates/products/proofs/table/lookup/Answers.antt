@@ -1,47 +1,31 @@
-use Prim.Native.Nat.{ℕ, ◌<◌}
-use mathlib.Core.Path.{◌≡◌, refl, sym, ◌∙◌}
-use borrow.Author.Rules.{rules}
-use native.Mathlib.Omega.{arith}
-use lib.ListN.{drop, length}
+use Rattle.std.proofs.Common.{◌≡◌, drop, None, refl, sym, ◌∙◌, arith}
 use Rattle.products.specs.declared.table.Code.{Code}
-use Rattle.products.specs.declared.table.NamedProduct.TheVariants.{Missing}
-use Rattle.products.specs.Products.{products, find_in, find}
+use Rattle.products.specs.Products.{products, no_product, find_in, find}
 use Rattle.products.proofs.Finding.{find-here, find_next}
 use Rattle.products.proofs.table.lookup.Goals as goal
 
-find-end : (a : Code) → find_in (drop 6 products) a ≡ Missing
+find-end : (a : Code) → find_in (drop 6 products) a ≡ None
 unfolding products find_in
 find-end a = refl
 
-within : {i : ℕ} → i < 6 → i < length products
-unfolding products
-within h = h
-
-pub loop-i-init : goal.loop-i-init
+pub loop-product-init : goal.loop-product-init
 unfolding find
-loop-i-init c = (search rules, refl)
-
-pub line-product-requires : goal.line-product-requires
-line-product-requires c = omega arith
-
-pub same_code-requires : goal.same_code-requires
-same_code-requires c = search rules
+loop-product-init c = refl
 
 pub returns-then-same_code : goal.returns-then-same_code
+unfolding products no_product
 returns-then-same_code c =
-    let l = c.loop-i in
-    find-here products l.i _ (within c.loop-i-test.true) c.line-product.ensures c.same_code.ensures l.invariant.1 c.if-same_code.true
+    let l = c.loop-product in
+    let lines = c.lines-product-items in
+    find-here lines.result l.product-index _ (rw lines.ensures c.loop-product-test.true) refl c.same_code.ensures (rw lines.ensures l.invariant) c.if-same_code.true
 
-pub overflow_add-i : goal.overflow_add-i
-overflow_add-i c = omega arith
-
-pub loop-i-smaller : goal.loop-i-smaller
-loop-i-smaller c = omega arith
-
-pub loop-i-preserved : goal.loop-i-preserved
-loop-i-preserved c =
-    let l = c.loop-i in
-    (omega arith, find_next products l.i _ (within c.loop-i-test.true) c.line-product.ensures c.same_code.ensures l.invariant.1 c.if-same_code.false)
+pub loop-product-preserved : goal.loop-product-preserved
+unfolding products no_product
+loop-product-preserved c =
+    let l = c.loop-product in
+    let lines = c.lines-product-items in
+    rw (← lines.ensures)
+    (find_next lines.result l.product-index _ (rw lines.ensures c.loop-product-test.true) refl c.same_code.ensures (rw lines.ensures l.invariant) c.if-same_code.false)
 
 pub returns : goal.returns
-returns c = let e : c.loop-i.i ≡ 6 = omega arith in sym (find-end c.args.code) ∙ (rw e at c.loop-i.invariant.1)
+returns c = let e : c.loop-product.product-index ≡ 6 = omega arith in sym (find-end c.args.code) ∙ (rw e at c.loop-product.invariant)

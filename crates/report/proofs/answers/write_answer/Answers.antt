@@ -2,10 +2,10 @@
 use Rattle.report.specs.Sheet.{answer_text}
 use Rattle.report.proofs.answers.write_answer.Goals as goal
 
-pub returns-in-Settled : goal.returns-in-Settled
+pub returns-in-Ok : goal.returns-in-Ok
 unfolding answer_text
-returns-in-Settled c = rw c.in-Settled.is c.write_settlement.ensures
+returns-in-Ok c = rw c.in-Ok.is c.write_settlement.ensures
 
-pub returns-in-Refused : goal.returns-in-Refused
+pub returns-in-Err : goal.returns-in-Err
 unfolding answer_text
-returns-in-Refused c = rw c.in-Refused.is c.write_refusal.ensures
+returns-in-Err c = rw c.in-Err.is c.write_refusal.ensures

@@ -8,4 +8,4 @@ use Rattle.report.proofs.words.write_money.Goals as goal
 pub returns : goal.returns
 returns c =
     writes_then (rw (to_z-of_z {w = w64} c.ranges.amount) at c.write_cents-currency_at.ensures)
-    (fitted_writes (end_in c.args.words.now c.args.at) (rw add-sub_cancel_left at c.write_text.ensures))
+    (fitted_writes (end_in c.args.w.words.now c.args.w.at) (rw add-sub_cancel_left at c.write_text.ensures))

@@ -9,10 +9,11 @@ use Rattle.report.proofs.words.write_rest.Goals as goal
 
 pub returns-then-out-lt12 : goal.returns-then-out-lt12
 returns-then-out-lt12 c =
-    no_room c.args.words.now c.args.at c.requires.1 c.args.amount _ (omega arith)
+    no_room c.args.w.words.now c.args.w.at c.args.w.whole c.args.amount _ (omega arith)
 
 pub returns : goal.returns
 returns c =
-    rest-written c.args.words.now c.args.at c.requires.1 c.args.amount (omega arith)
+    rw c.from-k.ensures
+    (rest-written c.args.w.words.now c.args.w.at c.args.w.whole c.args.amount (omega arith)
     (rw add-sub_cancel_left at c.write_text.ensures)
-    (rw (to_z-of_z {w = w64} c.ranges.amount) at c.write_money.ensures)
+    (rw (c.from-k.ensures, to_z-of_z {w = w64} c.ranges.amount) at c.write_money.ensures))

@@ -1,28 +1,25 @@
--- By the index: 12 where there is no such mark; else the correction that decides, or today's price, gives the final price and with it the
--- change (`mark-priced`).
-use Prim.Native.Nat.{◌≤◌, ◌<◌}
-use mathlib.Core.Path.{◌∙◌}
-use native.Mathlib.Omega.{arith}
-use lib.ListN.{length}
-use borrow.Author.Tests.{le-leb, lt-leb}
+-- The correction that decides, or today's price, gives the final price and with it the change (`mark-priced`).
+use Rattle.std.proofs.Common.{◌≡◌, ℕ, ◌<◌, ◌∙◌, Option, Some, None, ap, arith, length, rules}
+use Rattle.std.specs.Option.{option_map, MatchOption, IsSomeAnd}
+use borrow.Author.Tests.{lt-leb}
 use Rattle.numbers.proofs.Signed.{back}
 use Rattle.dayfile.specs.Records.{marks_in, corrections_in}
+use Rattle.dayfile.specs.declared.records.Correction.{Correction}
 use Rattle.settlement.proofs.OneMark.{mark-priced}
 use Rattle.settlement.proofs.one_mark.prices.Goals as goal
 
-pub returns-then-mark_count-m : goal.returns-then-mark_count-m
-returns-then-mark_count-m c =
-    let a = c.args in
-    let h : length (marks_in a.marks.now) ≤ a.m = omega (arith, c.mark_count.ensures, c.if-mark_count-m.true) in
-    rw (le-leb _ _ h)
+mapped : (P : Correction → ℕ → Type 0) (d : Option Correction) (n : Option ℕ) → ((x : Correction) (y : ℕ) → P x y → y ≡ x.number)
+    → MatchOption d (n ≡ None) (λ x. IsSomeAnd n (P x)) → n ≡ option_map (λ (c : Correction). c.number) d
+mapped P (Some c) (Some y) h m = ap Some (h c y m)
+mapped P (Some c) None h m = absurd m
+mapped P None n h m = m
 
 pub returns : goal.returns
 returns c =
     let a = c.args in
-    let ms = marks_in a.marks.now in
-    let cs = corrections_in a.corrections.now in
-    let d = c.highest-d.result in
-    let h : a.m < length ms = omega (arith, c.mark_count.ensures, c.if-mark_count-m.false) in
+    let d = c.highest-decides.result in
+    let h : a.m < length (marks_in a.marks.now) = omega (arith, c.mark_count.ensures, c.if-mark_count-m.false) in
     rw (lt-leb _ _ h)
-    (mark-priced ms cs a.m d.corrected d.number d.price c.mark_at-mark.ensures c.highest-d.ensures c.last_price-last.ensures
-    (back c.change_between-change.result c.change_between-change.type_inv ∙ c.change_between-change.ensures))
+    (mark-priced (marks_in a.marks.now) (corrections_in a.corrections.now) a.m d c.map.result c.mark_at-mark.ensures c.highest-decides.ensures
+    (mapped _ d c.map.result (λ x y p. search rules) c.map.ensures.cases) c.last_price-last.ensures
+    (back c.change_between.result c.change_between.type_inv ∙ c.change_between.ensures))

@@ -18,7 +18,7 @@ taken_after a room k xs ys within fits =
 
 pub loop-n-preserved : goal.loop-n-preserved
 loop-n-preserved g c =
-    let fits : c.in-Some.k ≤ length c.read_some.new.part = search rules in (
+    let h = c.in_ok-k.ensures in (
       search rules,
-      subst (Consumes _ _) (taken_after _ _ _ _ _ c.loop-n.invariant.0 fits) (Consumes-trans _ _ _ _ _ c.loop-n.invariant.1 c.in-Some.ensures.bytes),
+      subst (Consumes _ _) (taken_after _ _ _ _ _ c.loop-n.invariant.0 h.count.0) (Consumes-trans _ _ _ _ _ c.loop-n.invariant.1 h.bytes.0),
     )

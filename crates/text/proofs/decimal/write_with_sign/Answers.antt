@@ -1,10 +1,10 @@
 -- By the room: a minus sign is stored first and the digits from s on; where s is 0 they cover it, as every number has a digit.
-use Rattle.text.proofs.Writing.{wrote_no_room, wrote_fitted, wrote_byte, wrote_over, wrote_length}
+use Rattle.text.proofs.Writing.{wrote_no_room, wrote_fitted, wrote_byte, wrote_over}
 use Rattle.text.proofs.Decimals.{decimal_64, some-digit}
 use Rattle.text.proofs.Table.{by_length, sized}
 use Rattle.text.specs.Table.{decimal_by}
 use Rattle.text.specs.Decimal.{minus_sign}
-use lib.ListN.{take, length-set, length-take, length-drop}
+use lib.ListN.{take}
 use native.Mathlib.Omega.{arith}
 use mathlib.Core.List.{[], ◌∷◌, ◌++◌}
 use Rattle.text.proofs.decimal.write_with_sign.Goals as goal
@@ -19,21 +19,9 @@ returns-then-out-s c =
 pub bounds-out-0 : goal.bounds-out-0
 bounds-out-0 c = omega (arith, some-digit c.args.size)
 
-pub slice_bounds-write_digits-count : goal.slice_bounds-write_digits-count
-slice_bounds-write_digits-count c = simp length-set (omega arith)
-
-pub slice_bounds-write_digits-start : goal.slice_bounds-write_digits-start
-slice_bounds-write_digits-start c = simp length-set (omega arith)
-
-pub write_digits-requires : goal.write_digits-requires
-write_digits-requires c = (c.width-k.ensures, simp (length-take, length-drop, length-set) (omega arith))
-
 pub returns : goal.returns
 returns c =
     let n = some-digit c.args.size in
     let l = by_length c.args.pairs.now c.args.size in
     wrote_fitted (omega (arith, sized c.args.pairs.now c.args.s c.args.size c.requires))
     (wrote_over c.args.s c.requires (omega arith) (wrote_byte minus_sign c.args.out.now (omega arith)) c.write_digits.ensures)
-
-pub shape_of-out : goal.shape_of-out
-shape_of-out c = wrote_length ((let n = some-digit c.args.size in let l = by_length c.args.pairs.now c.args.size in wrote_fitted (omega (arith, sized c.args.pairs.now c.args.s c.args.size c.requires)) (wrote_over c.args.s c.requires (omega arith) (wrote_byte minus_sign c.args.out.now (omega arith)) c.write_digits.ensures)))

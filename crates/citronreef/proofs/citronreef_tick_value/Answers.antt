@@ -1,6 +1,0 @@
-use mathlib.Core.Path.{ap, ◌∙◌}
-use Rattle.citronreef.specs.Numbers.{quote_of}
-use Rattle.citronreef.proofs.citronreef_tick_value.Goals as goal
-
-pub returns : goal.returns
-returns c = c.contract_numbers.ensures ∙ ap quote_of c.tick_value.ensures

@@ -1,6 +1,0 @@
-use Rattle.dayfile.specs.Making.{counts_in}
-use Rattle.making.proofs.plans.counts.Goals as goal
-
-pub returns : goal.returns
-unfolding counts_in
-returns c = cc
