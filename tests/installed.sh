@@ -45,6 +45,11 @@ symbols() {
     nm --defined-only "$@" | awk 'NF == 3 { print $3 }' | sort
 }
 
+# The names that a library needs from outside.
+needed() {
+    nm --undefined-only "$@" | awk '$1 == "U" { sub(/@.*/, "", $2); print $2 }' | sort -u
+}
+
 # The sections that a program may write to.
 writable_sections() {
     readelf -SW "$1" | sed -n 's/^ *\[ *[0-9]*\] \(\.[^ ]*\) .* W[A-Z]* .*/\1/p'
@@ -89,6 +94,8 @@ shared=$prefix/lib/libcitronreef.so
 declared=$(grep -o 'citronreef_[a-z_]*(' include/citronreef.h | tr -d '(' | sort)
 prints "the shared library has the functions of the header and nothing else" "$declared" symbols -D "$shared"
 prints "the static library has the same" "$declared" symbols --extern-only "$prefix/lib/libcitronreef.a"
+prints "the static library needs nothing but memset" memset needed "$prefix/lib/libcitronreef.a"
+prints "the shared library needs no more" memset needed -D "$shared"
 readelf -dW "$shared" | grep -q 'SONAME.*\[libcitronreef\.so\.0\]' || fail "the name of the shared library"
 readelf -lW "$shared" | grep -q 'GNU_STACK.* RW ' || fail "no executable stack is demanded"
 ok "the shared library is libcitronreef.so.0 and demands no executable stack"

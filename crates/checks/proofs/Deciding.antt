@@ -1,11 +1,12 @@
 -- What the code finds in a section is what its checks decide.
-use Rattle.std.proofs.Common.{◌≡◌, ℕ, ◌+◌, ◌<◌, cond, Bool, true, false, ◌||◌, List, length, sym, refl, ◌∙◌, arith, Option, Some, None, Result, is_some}
+use Rattle.std.proofs.Common.{◌≡◌, ℕ, ◌+◌, ◌<◌, cond, Bool, true, false, ◌||◌, List, length, sym, refl, ap, ◌∙◌, arith, Option, Some, None, Result, is_some}
 use Rattle.std.specs.Result.{IsErrAnd}
 use Rattle.std.proofs.lemmas.Result.{err_from_is_err_and}
 use Rattle.numbers.specs.Folds.{repeating, first, or_else}
 use Rattle.numbers.specs.Checks.{decision_of, decision_for, finding_of}
 use Rattle.numbers.specs.declared.wanted.Wanted.{Wanted}
-use Rattle.numbers.proofs.Searches.{first_next, clear_first, some_clear, found_nothing, or_none}
+use Rattle.numbers.specs.Searches.{IsFirst}
+use Rattle.numbers.proofs.Searches.{first_is, first_next, clear_first, some_clear, found_nothing, or_none}
 use Rattle.numbers.proofs.Checks.{unmet_for, one_decides, one_passes}
 use Rattle.dayfile.specs.Limits.{Limits}
 use Rattle.dayfile.specs.Records.{mark_at, correction_at, position_at}
@@ -16,10 +17,12 @@ use Rattle.checks.specs.Marks.{contract_pair, mark_check, MarkCheck, MarkCode, M
 use Rattle.checks.specs.Corrections.{clash_pair, CorrectionCheck, CorrectionMark, CorrectionPrice, CorrectionClash, correction_checks}
 use Rattle.checks.specs.Corrections.{Answer, too_many_corrections, corrections_judged, resent_of}
 use Rattle.checks.specs.Positions.{holding_pair, PositionCheck, PositionMark, PositionLots, PositionRepeated, position_checks}
+use Rattle.checks.specs.Table.{listed}
 use Rattle.checks.specs.Faults.{mark_faults, any_mark_fault, some_mark_fault, mark_decision, or_next}
 use Rattle.checks.specs.Faults.{correction_faults, any_correction_fault, some_correction_fault, correction_decision}
 use Rattle.checks.specs.Faults.{position_faults, any_position_fault, some_position_fault, position_decision}
 use Rattle.numbers.specs.Order.{pick, sought, Decision, Met, Unmet}
+use Rattle.checks.specs.declared.marks.MarkFaults.{MarkFaults}
 use Rattle.faults.specs.Faults.{number_of, at_start, said}
 use Rattle.faults.specs.declared.fault.Fault.TheVariants.{AboveLimits}
 use Rattle.faults.specs.declared.refusal.Refusal.{Refusal}
@@ -46,10 +49,34 @@ goes_on w k {f = f} {e = e} h q g = g ∙ go (sought w k f) (rw q at h)
     go (Some i) h = absurd (let z : ◌≡◌ {A = ℕ} 0 1 = cc in omega arith)
     go None h = refl
 
--- one mark more: what the search for the first mark that fails a check has found among i marks, and finds among i + 1
-pub mark-more : (ms : List Mark) (c : MarkCheck) (i : ℕ) {o r : Option ℕ} {b : Bool} → o ≡ first (mark_check ms c).test i → b ≡ (mark_check ms c).test i
-    → r ≡ or_else o (cond b (Some i) None) → r ≡ first (mark_check ms c).test (i + 1)
-mark-more ms c i p q e = first_next (mark_check ms c).test i p q e
+-- what a mark's faults say to a check of one mark; 8, which looks at two, asks its own test
+abbrev pub fault_of : (ms : List Mark) → MarkCheck → ℕ → MarkFaults → Bool
+fault_of ms MarkCode i faults = faults.code
+fault_of ms MarkDate i faults = faults.date
+fault_of ms MarkLimit i faults = faults.high
+fault_of ms MarkTick i faults = faults.off
+fault_of ms MarkRepeated i faults = (mark_check ms MarkRepeated).test i
+
+shows : (ms : List Mark) (c : MarkCheck) (i : ℕ) {faults : MarkFaults} → faults ≡ mark_faults (mark_at ms i) → fault_of ms c i faults ≡ (mark_check ms c).test i
+unfolding listed
+shows ms c i q = ap (fault_of ms c i) q ∙ go c
+  where
+    go : (c : MarkCheck) → fault_of ms c i (mark_faults (mark_at ms i)) ≡ (mark_check ms c).test i
+    go MarkCode = refl
+    go MarkDate = refl
+    go MarkLimit = refl
+    go MarkTick = refl
+    go MarkRepeated = refl
+
+-- one mark more: what the search for the first mark with a check's fault has found among i marks, and finds among i + 1
+pub mark-more : (ms : List Mark) (c : MarkCheck) (i : ℕ) {o r : Option ℕ} {faults : MarkFaults} {b : Bool} → o ≡ first (mark_check ms c).test i
+    → faults ≡ mark_faults (mark_at ms i) → b ≡ fault_of ms c i faults → r ≡ or_else o (cond b (Some i) None) → r ≡ first (mark_check ms c).test (i + 1)
+mark-more ms c i p q k e = first_next (mark_check ms c).test i p (k ∙ shows ms c i q) e
+
+-- and what it finds, where its test of each mark is the fault in question
+pub first_faulty : (ms : List Mark) (c : MarkCheck) {P : ℕ → Bool → Type 0} {n : ℕ} → ((i : ℕ) (r : Bool) → i < n → P i r → r ≡ fault_of ms c i (mark_faults (mark_at ms i)))
+    → {o : Option ℕ} → IsFirst P n o → o ≡ first (mark_check ms c).test n
+first_faulty ms c agrees f = first_is (mark_check ms c).test (λ i r h p. agrees i r h p ∙ shows ms c i refl) f
 
 pub marks_decided : (ms : List Mark) (w : Wanted) {o : Option ℕ} {d : Decision} → o ≡ first (repeating (contract_pair ms)) (length ms)
     → d ≡ mark_decision ms o w → d ≡ decision_for (mark_checks ms) w

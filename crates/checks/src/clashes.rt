@@ -5,8 +5,8 @@ ghost use Rattle.dayfile.specs.Records.{corrections_in};
 ghost use Rattle.checks.specs.Corrections.{clashing, clash_pair, resent_of};
 ghost use Rattle.checks.specs.Faults.{clashes_below, Lasts};
 
+use crate::searches::first_where;
 use dayfile::{Correction, DayFile, correction_at, correction_count};
-use numbers::first_where;
 
 // 11: two corrections agree in number but differ in mark or price.
 fn clash(b: Correction, c: Correction) -> bool

@@ -12,9 +12,10 @@ ghost use Rattle.faults.specs.Faults.{said};
 use crate::clashes::{first_clash, resent_count};
 use crate::lists::{Marks, Ticked};
 use crate::marks::above_limit;
+use crate::searches::first_where;
 use dayfile::{Correction, DayFile, correction_at, correction_count, mark_count};
 use faults::{Fault, Refusal};
-use numbers::{Wanted, first_where};
+use numbers::Wanted;
 use pairs::{Key, earlier};
 use products::off_tick;
 
@@ -49,7 +50,7 @@ fn any_fault(faults: CorrectionFaults) -> bool
     faults.missing | faults.price
 }
 
-// Whether anything is wrong with some correction by itself. (A loop and no `some_where`, as for positions.)
+// Whether anything is wrong with some correction by itself. (A loop and no search by a closure, as for positions.)
 fn some_fault(marks: Ticked<'_>, corrections: &[u8]) -> bool
     ensures { result ≡ some_correction_fault (marks_in marks.entry.marks.now) (corrections_in corrections.now) }
 {

@@ -8,6 +8,7 @@ mod judging;
 mod lists;
 mod marks;
 mod positions;
+mod searches;
 
 pub use corrections::{CorrectionsJudged, check_corrections};
 pub use finding::find;

@@ -11,9 +11,10 @@ ghost use Rattle.faults.specs.Faults.{said};
 ghost use Rattle.checks.specs.Faults.{mark_faults, faults_by, any_mark_fault, some_mark_fault, mark_decision, Ticks};
 
 use crate::lists::Marks;
+use crate::searches::first_where;
 use dayfile::{DayFile, Mark, mark_at, mark_count};
 use faults::{Fault, Refusal};
-use numbers::{Wanted, first_where};
+use numbers::Wanted;
 use pairs::{Key, first_repeated};
 use products::{PRICE_LIMIT, Product, has_month, lookup, off_tick};
 

@@ -10,9 +10,10 @@ ghost use Rattle.checks.specs.Faults.{raw_faults, counted_faults, any_position_f
 ghost use Rattle.faults.specs.Faults.{said};
 
 use crate::lists::Marks;
+use crate::searches::first_where;
 use dayfile::{DayFile, Position, RawPosition, mark_count, position_count, raw_position_at};
 use faults::{Fault, Refusal};
-use numbers::{Wanted, first_where};
+use numbers::Wanted;
 use pairs::{Key, first_repeated};
 
 // The most lots that a position may have, long or short.
@@ -53,7 +54,7 @@ fn any_fault(faults: PositionFaults) -> bool
 }
 
 // Whether anything is wrong with some position by itself. All are looked at, in numbers of 32 bits: so the compiler takes four at a time.
-// (By `some_where` it takes one at a time, and settling a full file takes 1.2 times as long.)
+// (By a closure it takes one at a time, and settling a full file takes 1.2 times as long.)
 fn some_fault(marks: Marks<'_>, positions: &[u8]) -> bool
     ensures { result ≡ some_position_fault (marks_in marks.entry.bytes.now) (positions_in positions.now) }
 {

@@ -1,7 +1,7 @@
 -- What the tests of the header say of a file.
-use Rattle.std.proofs.Common.{Option, Some, None}
-use mathlib.Core.Path.{◌≡◌, sym, ap, ◌∙◌}
-use mathlib.Core.Bool.{Bool, cond, not}
+use Rattle.std.proofs.Common.{Some, None}
+use mathlib.Core.Path.{◌≡◌, refl, sym, ap, ◌∙◌}
+use mathlib.Core.Bool.{Bool, true, false, cond, not}
 use mathlib.Core.List.{List}
 use Prim.Native.Nat.{ℕ, ◌≤◌, ◌<◌}
 use lib.ListN.{length}
@@ -30,33 +30,24 @@ module _ (s : List ℕ) {d : DayFile} (o : counted_of file_limits s ≡ File d) 
 -- ---- each check by itself
 
 module _ (s : List ℕ) (w : Wanted) where
-  pub decided_short : length s < header_size → {r : Decision} → r ≡ or_found Unmet 1 (sought w 1 (Some 0)) → r ≡ header_decision file_limits s w
+  none_more : (d : Decision) → or_found (or_found d 2 (sought w 2 None)) 3 (sought w 3 None) ≡ d
+  none_more (Met k i) = refl
+  none_more Unmet = rw (nothing_sought w 2, nothing_sought w 3)
+
+  pub decided_short : length s < header_size → {r : Decision} → r ≡ decided_by_tests true false false w → r ≡ header_decision file_limits s w
   unfolding header_decision decision_for first
   decided_short h e =
       let short = lt-ltb (length s) header_size h in
-      e ∙ rw short (ap (λ b. pick (sought w 1 (cond b (Some 0) None)) 1 Unmet) (sym short))
+      e ∙ none_more (or_found Unmet 1 (sought w 1 (Some 0)))
+      ∙ rw short (ap (λ b. pick (sought w 1 (cond b (Some 0) None)) 1 Unmet) (sym short))
 
-  -- a whole header, by what checks 2 and 3 find
-  module _ (h : header_size ≤ length s) {d : DayFile} (q : d ≡ counts_of s) where
-    abbrev pub above : Option ℕ
-    above = cond (not (within_limits file_limits d)) (Some 0) None
-
-    abbrev pub broken : Option ℕ
-    broken = cond (not (as_laid_out s d)) (Some 0) None
-
-    decided_whole : or_found (or_found Unmet 2 (sought w 2 above)) 3 (sought w 3 broken) ≡ header_decision file_limits s w
-    unfolding header_decision first
-    decided_whole =
-        let long = le-ltb (length s) header_size h in
-        let none = ap (λ o. or_found (or_found (or_found Unmet 1 o) 2 (sought w 2 above)) 3 (sought w 3 broken)) (sym (nothing_sought w 1)) in
-        none ∙ ap (λ c. decided_by_tests c (not (within_limits file_limits d)) (not (as_laid_out s d)) w) (sym long) ∙ rw q (decision_by_steps (header_checks file_limits s) w)
-        ∙ ap (λ c. decision_for (looked_at file_limits s c) w) (sym long)
-
-    pub limits_refuse : {k i : ℕ} → Met k i ≡ or_found Unmet 2 (sought w 2 above) → Met k i ≡ header_decision file_limits s w
-    limits_refuse e = ap (λ x. or_found x 3 (sought w 3 broken)) e ∙ decided_whole
-
-    pub limits_pass : Unmet ≡ or_found Unmet 2 (sought w 2 above) → {r : Decision} → r ≡ or_found Unmet 3 (sought w 3 broken) → r ≡ header_decision file_limits s w
-    limits_pass e g = g ∙ ap (λ x. or_found x 3 (sought w 3 broken)) e ∙ decided_whole
+  pub decided_whole : {d : DayFile} → header_size ≤ length s → d ≡ counts_of s → {a b : Bool} → a ≡ within_limits file_limits d → b ≡ as_laid_out s d
+      → {r : Decision} → r ≡ decided_by_tests false (not a) (not b) w → r ≡ header_decision file_limits s w
+  unfolding header_decision first
+  decided_whole {d} h q {a} {b} p t e =
+      let long = le-ltb (length s) header_size h in
+      e ∙ ap (λ c. decided_by_tests c (not a) (not b) w) (sym long) ∙ rw (p, t, q) (decision_by_steps (header_checks file_limits s) w)
+      ∙ ap (λ c. decision_for (looked_at file_limits s c) w) (sym long)
 
 module _ (s : List ℕ) where
   pub counted-short : length s < header_size → Refused 1 ≡ counted_of file_limits s

@@ -5,7 +5,7 @@ ghost use Rattle.dayfile.specs.Limits.{file_limits};
 ghost use Rattle.numbers.specs.Bytes.{part};
 ghost use Rattle.dayfile.specs.Layout.{header_size, counts_of, corrections_start, positions_start, length_of};
 ghost use Rattle.dayfile.specs.Layout.{mark_bytes, correction_bytes, position_bytes};
-ghost use Rattle.dayfile.specs.Opening.{within_limits, as_laid_out, opened, opened_of, header_decision, counted_of};
+ghost use Rattle.dayfile.specs.Opening.{within_limits, as_laid_out, opened, opened_of, header_decision, decided_by_tests, counted_of};
 
 use crate::bytes::u32_at;
 use crate::records::{Correction, Mark, Position};
@@ -140,15 +140,23 @@ pub fn open_file(s: &[u8]) -> Result<DayFile, Fault>
     }
 }
 
+// What three tests say, by those checks that are looked at. There is one file, and its index is 0. (Outcomes and no tests: of a short header
+// the second and the third are not made.)
+fn decided_by_tests(short: bool, above: bool, broken: bool, wanted: Wanted) -> Result<(), Refusal>
+    ensures { said result ≡ decided_by_tests short above broken wanted }
+{
+    Fault::ShortFile.refuse(wanted, short.then_some(0))?;
+    Fault::AboveLimits.refuse(wanted, above.then_some(0))?;
+    Fault::Layout.refuse(wanted, broken.then_some(0))
+}
+
 // What checks 1 to 3 say, those of them that are looked at. Of a file that is shorter than a header its length alone is looked at.
-// There is one file, and its index is 0.
 pub fn decide_header(s: &[u8], wanted: Wanted) -> Result<(), Refusal>
     ensures { said result ≡ header_decision file_limits s.now wanted }
 {
     if s.len() < DayFile::HEADER {
-        return Fault::ShortFile.refuse(wanted, Some(0));
+        return decided_by_tests(true, false, false, wanted);
     }
     let d = counts(s);
-    Fault::AboveLimits.refuse(wanted, (!d.within_limits()).then_some(0))?;
-    Fault::Layout.refuse(wanted, (!d.as_laid_out(s)).then_some(0))
+    decided_by_tests(false, !d.within_limits(), !d.as_laid_out(s), wanted)
 }

@@ -1,5 +1,5 @@
 -- Searches, counts and sums over the indices below n, and lists filled by index.
-use Rattle.std.specs.Prelude.{◌≡◌, ℕ, zero, suc, ◌+◌, ◌<◌, Bool, true, false, cond, ◌||◌, List, [], ◌∷◌, ◌++◌, drop, ℤ, pos, ◌+ℤ◌, slice_index_or, Option, Some, None}
+use Rattle.std.specs.Prelude.{◌≡◌, ℕ, zero, suc, ◌+◌, ◌<◌, Bool, false, cond, ◌||◌, List, [], ◌∷◌, ◌++◌, drop, ℤ, pos, ◌+ℤ◌, slice_index_or, Option, Some, None}
 
 -- what was found first
 abbrev pub or_else : Option ℕ → Option ℕ → Option ℕ

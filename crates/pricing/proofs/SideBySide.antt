@@ -1,13 +1,15 @@
 -- The laws of values worked side by side.
-use Rattle.std.proofs.Common.{◌≡◌, ℕ, zero, suc, ◌+◌, ◌*◌, ◌<◌, ◌≤◌, List, [], ◌∷◌, length, get_or, refl, ap, ◌∙◌, arith, Bool, false}
+use Rattle.std.proofs.Common.{◌≡◌, ℕ, zero, suc, ◌+◌, ◌*◌, ◌<◌, ◌≤◌, List, [], ◌∷◌, length, get_or, refl, ap, ◌∙◌, arith, Bool, true, false, leb, eqb, ◌%◌}
+use Rattle.std.proofs.lemmas.Bool.Decides.{nat_tests}
 use Rattle.numbers.specs.Rounding.{nearest}
-use Rattle.numbers.specs.Folds.{Filled}
-use Rattle.numbers.specs.Searches.{some_by, TellsSome}
+use Rattle.numbers.specs.Folds.{some, Filled}
 use Rattle.products.specs.Products.{price_limit}
 use Rattle.products.specs.declared.table.Terms.TheVariants.{Bond}
 use Rattle.products.specs.declared.table.Code.{Code}
 use Rattle.numbers.proofs.Filled.{table_filled, filled-table}
-use Rattle.pricing.specs.Calls.{lanes, or_zero, value_of, values_or_zero}
+use Rattle.numbers.proofs.Searches.{some_clear}
+use Rattle.pricing.specs.Calls.{given, check, lanes, or_zero, value_of, values_or_zero}
+use Rattle.pricing.specs.Checking.{is_refused, fails_at, Passes}
 use Rattle.pricing.specs.Value.{scale, value_by}
 use Rattle.pricing.specs.Rungs.{rung_at, next_of, Low, no_rung, bond_of, Within}
 use Rattle.pricing.specs.declared.ladder.Rung.{Rung}
@@ -45,9 +47,17 @@ two_prices {p} {q} h k = record { few = omega arith; lane = go }
     go (suc zero) l = k
     go (suc (suc i)) l = absurd (omega arith)
 
--- where no index passes a test
-pub no_index : {P : ℕ → Bool → Type 0} {n : ℕ} {b : Bool} → TellsSome P n b → b ≡ false → (i : ℕ) → i < n → P i false
-no_index {P} {n} s e = let h : some_by P n false = rw e at s.some in h
+-- a price that does not fail passes, and where none fails all do
+pub passes_at : (tick p : ℕ) → fails_at tick p ≡ false → Passes tick p
+passes_at tick p = go (leb p price_limit) (eqb (p % tick) 0) refl refl
+  where
+    go : (low whole : Bool) → leb p price_limit ≡ low → eqb (p % tick) 0 ≡ whole → is_refused (check 6 low (check 7 whole (given 0))) ≡ false → Passes tick p
+    go true true l w e = record { low = grind (arith, nat_tests); answer = λ a. rw (l, w) refl }
+    go true false l w e = absurd (let z : ◌≡◌ {A = ℕ} 0 1 = cc in omega arith)
+    go false whole l w e = absurd (let z : ◌≡◌ {A = ℕ} 0 1 = cc in omega arith)
+
+pub all_pass : (tick : ℕ) (p : List ℕ) → some (λ i. fails_at tick (get_or p i 0)) lanes ≡ false → (i : ℕ) → i < lanes → Passes tick (get_or p i 0)
+all_pass tick p e i h = passes_at tick (get_or p i 0) (some_clear (λ i. fails_at tick (get_or p i 0)) lanes i e h)
 
 -- each lane's value
 pub values_at : (code : Code) (p : List ℕ) (k : ℕ) → k < lanes → get_or (values_or_zero code p) k 0 ≡ or_zero (value_of code (get_or p k 0))

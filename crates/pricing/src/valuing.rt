@@ -1,14 +1,13 @@
 // The value of one contract where the call is not refused, else 0: at one price, or at several side by side.
-ghost use Rattle.std.specs.Prelude.{◌≡◌, false, get_or};
-ghost use Rattle.numbers.specs.Folds.{Filled};
+ghost use Rattle.std.specs.Prelude.{◌≡◌, get_or};
+ghost use Rattle.numbers.specs.Folds.{some, Filled};
 ghost use Rattle.pricing.specs.Value.{value_by};
 ghost use Rattle.pricing.specs.Calls.{given, at_price, lanes, or_zero, value_of, values_or_zero};
-ghost use Rattle.pricing.specs.Checking.{Passes};
+ghost use Rattle.pricing.specs.Checking.{fails_at};
 
 use crate::contract::check_price;
 use crate::listed::Listed;
 use crate::values::bonds_at;
-use numbers::some_where;
 use products::{Code, Terms};
 use std::array::from_fn;
 
@@ -34,9 +33,21 @@ pub fn value_or_zero(code: Code, p: u32) -> u64
 
 // Whether a price fails check 6 or 7.
 fn fails(tick: u32, p: u32) -> bool
-    ensures { result ≡ false → Passes tick p }
+    ensures { result ≡ fails_at tick p }
 {
     check_price(tick, p).is_err()
+}
+
+// Whether some price does. (All are asked, with no branch between them, so that the compiler takes several at a time. A loop: a search by a
+// closure asks that it may be called, and no crate passes on a function that asks anything.)
+fn some_fails(tick: u32, p: [u32; LANES]) -> bool
+    ensures { result ≡ some (λ i. fails_at tick (get_or p i 0)) lanes }
+{
+    let mut bad = false;
+    for k in 0..LANES {
+        bad |= fails(tick, p[k]);
+    }
+    bad
 }
 
 // The values at several prices: a bond's side by side, where none is turned away.
@@ -48,7 +59,7 @@ fn values_by(product: Listed, p: [u32; LANES]) -> [u64; LANES]
             face,
             coupon,
             halves,
-        } if !some_where(LANES, |i| fails(product.tick, p[i])) => bonds_at(face, coupon, halves, p),
+        } if !some_fails(product.tick, p) => bonds_at(face, coupon, halves, p),
         _ => from_fn(|i| value_if_passed(product, p[i])),
     }
 }

@@ -8,7 +8,7 @@ use native.Mathlib.Numerals.{add-one}
 use native.Mathlib.Omega.{arith}
 use borrow.Author.Tests.{le-leb, lt-leb}
 use lib.ListN.{length, length-set, get_or, take, drop, set, length-append, length-take, length-drop, drop_of_length-le}
-use lib.Seq.{sets, sets-eq, drop_at, drop-drop, take-append-le, drop-append-le, drop-append-add, drop-cons, set_at, set_split, take_all, length-take-le}
+use lib.Seq.{sets, sets-eq, drop_at, drop-drop, take-append-le, drop-append-le, drop-append-add, drop-cons, set_at, set_split, take_all, take-length, length-take-le}
 use borrow.Rule.Slice.PartMut.{mid_of, put_mid, same_len_mid}
 use Rattle.text.specs.Writing.{over, Wrote, Writes, fitted, texts}
 
@@ -116,6 +116,10 @@ wrote_stores s out h =
 -- all at once
 pub wrote_copy : (s out : List ℕ) {copy : List ℕ} → length s ≤ length out → copy ≡ s → Wrote s (length s) out (copy ++ drop (length s) out)
 wrote_copy s out h e = record { within = h; count = refl; written = ap (λ x. x ++ drop (length s) out) e }
+
+-- byte by byte: the first i bytes are the text's, and in the end all are
+pub copied : (s out : List ℕ) {i : ℕ} {now : List ℕ} → length s ≤ length out → now ≡ take i s ++ drop i out → i ≡ length s → Wrote s (length s) out now
+copied s out f e q = record { within = f; count = refl; written = e ∙ rw (q, take-length s) }
 
 -- ---- a text that a buffer has room for
 

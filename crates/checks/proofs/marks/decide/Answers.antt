@@ -3,30 +3,21 @@ use Rattle.std.proofs.Common.{◌≡◌, length, ◌∙◌, rules}
 use Rattle.dayfile.specs.Records.{marks_in}
 use Rattle.checks.specs.Marks.{mark_check, MarkCode, MarkDate, MarkLimit, MarkTick}
 use Rattle.numbers.specs.Folds.{first}
-use Rattle.numbers.proofs.Searches.{first_is}
-use Rattle.checks.proofs.Deciding.{handed_on, decides, goes_on}
+use Rattle.checks.proofs.Deciding.{handed_on, decides, goes_on, first_faulty}
 use Rattle.checks.proofs.marks.decide.Goals.{After-first_where, After-first_where-2, After-first_where-3, After-first_where-4}
 use Rattle.checks.proofs.marks.decide.Goals as goal
 
 unlisted : (c : After-first_where) → let ms = marks_in c.args.marks.now in c.first_where.result ≡ first (mark_check ms MarkCode).test (length ms)
-unlisted c =
-    let check = mark_check (marks_in c.args.marks.now) MarkCode in
-    rw (← c.mark_count-n.ensures) (first_is check.test (λ i r h p. search rules) c.first_where.ensures)
+unlisted c = rw (← c.mark_count-n.ensures) (first_faulty (marks_in c.args.marks.now) MarkCode (λ i r h p. search rules) c.first_where.ensures)
 
 undated : (c : After-first_where-2) → let ms = marks_in c.args.marks.now in c.first_where-2.result ≡ first (mark_check ms MarkDate).test (length ms)
-undated c =
-    let check = mark_check (marks_in c.args.marks.now) MarkDate in
-    rw (← c.mark_count-n.ensures) (first_is check.test (λ i r h p. search rules) c.first_where-2.ensures)
+undated c = rw (← c.mark_count-n.ensures) (first_faulty (marks_in c.args.marks.now) MarkDate (λ i r h p. search rules) c.first_where-2.ensures)
 
 high : (c : After-first_where-3) → let ms = marks_in c.args.marks.now in c.first_where-3.result ≡ first (mark_check ms MarkLimit).test (length ms)
-high c =
-    let check = mark_check (marks_in c.args.marks.now) MarkLimit in
-    rw (← c.mark_count-n.ensures) (first_is check.test (λ i r h p. search rules) c.first_where-3.ensures)
+high c = rw (← c.mark_count-n.ensures) (first_faulty (marks_in c.args.marks.now) MarkLimit (λ i r h p. search rules) c.first_where-3.ensures)
 
 off : (c : After-first_where-4) → let ms = marks_in c.args.marks.now in c.first_where-4.result ≡ first (mark_check ms MarkTick).test (length ms)
-off c =
-    let check = mark_check (marks_in c.args.marks.now) MarkTick in
-    rw (← c.mark_count-n.ensures) (first_is check.test (λ i r h p. search rules) c.first_where-4.ensures)
+off c = rw (← c.mark_count-n.ensures) (first_faulty (marks_in c.args.marks.now) MarkTick (λ i r h p. search rules) c.first_where-4.ensures)
 
 pub returns-in_err-refuse : goal.returns-in_err-refuse
 returns-in_err-refuse c =

@@ -1,21 +1,18 @@
 -- Where no price is turned away all are within the limit, and no value is a 0 for a refusal.
-use Rattle.std.proofs.Common.{ℕ, ◌<◌, get_or, ap, sym, ◌∙◌, arith, rules}
-use Rattle.pricing.specs.Calls.{lanes, or_zero}
-use Rattle.pricing.specs.Checking.{Passes}
+use Rattle.std.proofs.Common.{ap, sym, ◌∙◌, arith, rules}
+use Rattle.pricing.specs.Calls.{or_zero}
 use Rattle.pricing.proofs.Made.{made}
-use Rattle.pricing.proofs.SideBySide.{no_index}
+use Rattle.pricing.proofs.SideBySide.{all_pass}
 use Rattle.pricing.proofs.valuing.values_by.Goals as goal
 
 pub bonds_at-requires : goal.bonds_at-requires
 bonds_at-requires c =
-    let passes : (i : ℕ) → i < lanes → Passes c.args.product.tick (get_or c.args.p i 0) =
-    λ i h. (let s = no_index c.some_where.ensures c.if-not-some_where.true i h in search rules) in
+    let passes = all_pass c.args.product.tick c.args.p (sym c.some_fails.ensures ∙ c.if-not-some_fails.true) in
     (search rules, (search rules, (rw c.in-Bond.is at c.args.product.modest, record { few = omega arith; lane = λ i h. (passes i h).low })))
 
 pub returns-in-Bond : goal.returns-in-Bond
 returns-in-Bond c =
-    let passes : (i : ℕ) → i < lanes → Passes c.args.product.tick (get_or c.args.p i 0) =
-    λ i h. (let s = no_index c.some_where.ensures c.if-not-some_where.true i h in search rules) in
+    let passes = all_pass c.args.product.tick c.args.p (sym c.some_fails.ensures ∙ c.if-not-some_fails.true) in
     rw c.in-Bond.is (record { entry = λ i h. c.bonds_at.ensures.entry i h ∙ ap or_zero (sym ((passes i h).answer _)) })
 
 pub returns-in_default : goal.returns-in_default

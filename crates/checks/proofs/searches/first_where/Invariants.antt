@@ -1,5 +1,5 @@
 use Rattle.std.proofs.Common.{ℕ, ◌<◌, false}
-use Rattle.numbers.proofs.finding.first_where.Given as goal
+use Rattle.checks.proofs.searches.first_where.Given as goal
 
 -- no index so far passes
 abbrev pub invariant-loop-i : goal.invariant-loop-i

@@ -1,6 +1,5 @@
-use Rattle.std.proofs.Common.{ℕ, ◌<◌, false}
 use Rattle.numbers.specs.Searches.{some_by}
-use Rattle.numbers.proofs.finding.some_where.Given as goal
+use Rattle.pairs.proofs.pairwise.some_where.Given as goal
 
 -- what is found so far
 abbrev pub invariant-loop-k : goal.invariant-loop-k
