@@ -54,6 +54,8 @@ fn with_room(d: DayFile, room: usize) -> Result<DayFile, Refusal>
 }
 
 // Checks 2 and 3, then 4 to 13 and 16, then 17, for a buffer of so many bytes: the counts of the file to make.
+// (Two laws are named here and in no answer, so that the proof goes by what a refusal says and not by how it is handed on.)
+#[tactic(auto, using(crate::proofs::Planned::planned_records, crate::proofs::Planned::planned_room))]
 pub(crate) fn plan_of(lists: Lists<'_>, room: usize) -> Result<DayFile, Refusal>
     ensures { planned result
         ≡ plan_of file_limits lists.entry.marks.now lists.entry.corrections.now lists.entry.positions.now room }
